@@ -1,0 +1,13 @@
+-- A byte is a number below 256, and a block is sixteen bytes (FIPS 197, section 3.2).
+use mathlib.Core.Path.{_≡_}
+use mathlib.Core.List.{List}
+use Prim.Native.Nat.{ℕ, _<_}
+use lib.ListN.{length, getD}
+
+-- each element is a byte
+abbrev pub Bytes : List ℕ → Type 0
+Bytes s = (i : ℕ) → getD s i 0 < 256
+
+pub record Block (s : List ℕ) : Type 0 where
+  pub long : length s ≡ 16
+  pub byte : Bytes s

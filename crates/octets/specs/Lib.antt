@@ -1,0 +1,5 @@
+pub mod Bytes
+pub mod Lists
+pub mod Xor
+pub mod Tests
+pub mod Filled
