@@ -1,0 +1,5 @@
+pub mod Field
+pub mod Matrix
+pub mod Linear
+pub mod Undo
+pub mod Inverse
