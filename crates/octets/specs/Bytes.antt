@@ -3,6 +3,8 @@ use mathlib.Core.Path.{_≡_}
 use mathlib.Core.List.{List}
 use Prim.Native.Nat.{ℕ, _<_}
 use lib.ListN.{length, getD}
+use lib.Bits.{bitXor}
+use Rattle.octets.specs.Lists.{table}
 
 -- each element is a byte
 abbrev pub Bytes : List ℕ → Type 0
@@ -11,3 +13,7 @@ Bytes s = (i : ℕ) → getD s i 0 < 256
 pub record Block (s : List ℕ) : Type 0 where
   pub long : length s ≡ 16
   pub byte : Bytes s
+
+-- the exclusive or of two blocks, byte by byte
+abbrev pub xorBlock : List ℕ → List ℕ → List ℕ
+xorBlock a b = table (λ i. bitXor (getD a i 0) (getD b i 0)) 16 0

@@ -1,1 +1,45 @@
+//! Bytes in blocks of sixteen.
 ghost use mathlib.Core.Path.{_≡_};
+ghost use Prim.Native.Nat.{_+_, _≤_};
+ghost use lib.ListN.{length};
+ghost use Rattle.octets.specs.Bytes.{xorBlock};
+ghost use Rattle.octets.specs.Lists.{part, over};
+
+// The exclusive or of two blocks.
+pub fn xor_block(a: [u8; 16], b: [u8; 16]) -> [u8; 16]
+    ensures { λ r. ⌜ r ≡ xorBlock a b ⌝ }
+{
+    let mut t = a;
+    let mut i: usize = 0;
+    while i < 16 {
+        t[i] = t[i] ^ b[i];
+        i += 1;
+    }
+    t
+}
+
+// The block that stands at a place of a slice.
+pub fn block_at(s: &[u8], at: usize) -> [u8; 16]
+    requires { ⌜ at + 16 ≤ length (now s) ⌝ }
+    ensures { λ r. ⌜ r ≡ part (now (s .entry)) at 16 ⌝ }
+{
+    let mut b = [0u8; 16];
+    let mut i: usize = 0;
+    while i < 16 {
+        b[i] = s[at + i];
+        i += 1;
+    }
+    b
+}
+
+// Bytes written over a slice from a place on.
+pub fn copy_at(d: &mut [u8], at: usize, s: &[u8])
+    requires { ⌜ at + length (now s) ≤ length (now d) ⌝ }
+    ensures { λ _. ⌜ now (d .exit) ≡ over (now (d .entry)) at (now (s .entry)) ⌝ }
+{
+    let mut i: usize = 0;
+    while i < s.len() {
+        d[at + i] = s[i];
+        i += 1;
+    }
+}
