@@ -3,3 +3,4 @@ pub mod Cipher
 pub mod InvCipher
 pub mod Blocks
 pub mod Undo
+pub mod Tables

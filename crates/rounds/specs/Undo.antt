@@ -110,6 +110,10 @@ module _ (w : List (List ℕ)) (wb : (n : ℕ) → Bytes (getD w n [])) where
       ∙ ap (λ (x : List ℕ). invHalf (invRounds w n x)) (inv-columns h hb)
       ∙ there n s b
 
+  columns-back : (s k : List ℕ) → Block (addRoundKey (invHalf s) k) → mixColumns (invRound s k) ≡ addRoundKey (invHalf s) k
+  unfolding invRound
+  columns-back s k kb = columns-inv (addRoundKey (invHalf s) k) kb
+
   back : (n : ℕ) (s : List ℕ) → Block s → half (rounds w n (invHalf (invRounds w n s))) ≡ s
   unfolding rounds round invRounds
   back zero s b = half-of-inv s b
@@ -121,10 +125,6 @@ module _ (w : List (List ℕ)) (wb : (n : ℕ) → Bytes (getD w n [])) where
       ap (λ (x : List ℕ). half (addRoundKey (mixColumns x) k)) (back n (invRound s k) (inv-round-block (suc n) s b))
       ∙ ap half (ap (λ (x : List ℕ). addRoundKey x k) (columns-back s k kb) ∙ key-twice z zb k)
       ∙ half-of-inv s b
-    where
-      columns-back : (s k : List ℕ) → Block (addRoundKey (invHalf s) k) → mixColumns (invRound s k) ≡ addRoundKey (invHalf s) k
-      unfolding invRound
-      columns-back s k kb = columns-inv (addRoundKey (invHalf s) k) kb
 
   module _ (nr : ℕ) (s : List ℕ) (b : Block s) where
     first : Block (addRoundKey s (getD w 0 []))
