@@ -159,7 +159,7 @@ padded-unpadded s n q =
     let t : length (take n s) ≡ n = length-take-le n s (omega arith) in
     let z : zeroBytes n ≡ length s - suc n = omega (arith, unpadded-whole s n q) in
     let e : replicate (zeroBytes (length (take n s))) 0 ≡ drop (suc n) s = ap (λ (m : ℕ). replicate {A = ℕ} m 0) (ap zeroBytes t ∙ z) ∙ sym (zeros-behind s n k) in
-    ap₂ (λ (x : ℕ) (y : List ℕ). take n s ++ (x ∷ y)) (sym (k .one)) e ∙ sym (split-at s n 0 l)
+    rw (e, ← k .one) (sym (split-at s n 0 l))
 
 -- unpadding a padded text gives the text
 pub unpadded-padded : (s : List ℕ) → unpadded (padded s) ≡ Text (length s)
