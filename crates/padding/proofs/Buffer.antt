@@ -1,16 +1,15 @@
 -- Padding written into a buffer, a byte at a time from the end of the text on. Assumes nothing.
-use mathlib.Core.Path.{_≡_, refl, sym, ap, _∙_}
-use mathlib.Core.List.{List, [], _∷_, _++_, append-assoc}
-use Prim.Native.Nat.{ℕ, zero, suc, _+_, _-_, _*_, _<_, _≤_}
+use mathlib.Core.Path.{_≡_, sym, _∙_}
+use mathlib.Core.List.{List, _∷_}
+use Prim.Native.Nat.{ℕ, suc, _+_, _-_, _*_, _<_, _≤_}
 use native.Mathlib.Nat.{zero-add}
 use native.Mathlib.Numerals.{add-one}
 use native.Mathlib.Omega.{arith}
 use borrow.Author.Tests.{le-leb, lt-leb}
-use lib.ListN.{length, set, take, drop, replicate, length-append, length-replicate}
+use lib.ListN.{length, set, take, replicate, length-append}
 use lib.Seq.{length-take-le, append-snoc, take-suc-set, drop-set-lt}
 use Rattle.octets.specs.Lists.{over, over-none}
 use Rattle.padding.specs.Method2.{blocksFor, zeroBytes, padded, padAnswer, padBuffer}
-use Rattle.padding.specs.Laws.{length-padded}
 use Rattle.padding.specs.declared.Padded.the-variants.{To, TooShort}
 
 -- a byte stored, and the rest written behind it

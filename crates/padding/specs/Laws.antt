@@ -1,25 +1,28 @@
 -- Laws of padding method 2: the zero bytes are the fewest, lengths, and that padding and unpadding undo each other. Assumes nothing.
-use mathlib.Core.Path.{_≡_, refl, sym, ap, ap₂, _∙_}
-use mathlib.Core.Bool.{Bool, true, false, cond, _&&_, and-eq-true-iff}
-use mathlib.Core.List.{List, [], _∷_, _++_}
+use mathlib.Core.Path.{_≡_, refl, sym, ap, _∙_}
+use mathlib.Core.Bool.{Bool, true, false, cond, and-eq-true-iff}
+use mathlib.Core.List.{List, _∷_}
 use mathlib.Core.Logic.{⊎-elim}
-use Prim.Native.Nat.{ℕ, zero, suc, _+_, _-_, _*_, _/_, _%_, _<_, _≤_}
+use Prim.Native.Nat.{ℕ, zero, suc, _+_, _-_, _*_, _%_, _<_, _≤_}
 use native.Mathlib.Nat.{eq-or-lt-of-le, not-suc-le-zero}
 use native.Mathlib.Omega.{arith}
-use borrow.Author.Tests.{eqb-true, eqb-false, ltb-true, eq-eqb, ne-eqb, lt-ltb}
-use lib.Dec.{eqb, ltb, leb}
-use lib.ListN.{length, getD, take, drop, replicate, length-append, length-replicate, getD-replicate, length-drop, List·getD-append}
+use borrow.Author.Tests.{eqb-true, ltb-true, eq-eqb, ne-eqb, lt-ltb}
+use lib.Dec.{eqb}
+use lib.ListN.{length, getD, take, drop, replicate, length-append, length-replicate, length-drop}
 use lib.Seq.{length-take-le, split-at, getD-append-add, getD-at, getD-drop, ext-getD}
 use Rattle.padding.specs.Method2.{blocksFor, zeroBytes, padded, textEnd, end, rightly, unpadded}
 use Rattle.padding.specs.declared.Unpadded.{Unpadded}
 use Rattle.padding.specs.declared.Unpadded.the-variants.{Text, Malformed}
 
--- fewer than a block of zero bytes, and with them the blocks are full
+-- the zero bytes fill the blocks, they are fewer than a block, and no fewer fill any number of blocks
+pub fills : (t : ℕ) → t + 1 + zeroBytes t ≡ 16 * blocksFor t
+fills t = omega arith
+
 pub fewest : (t : ℕ) → zeroBytes t < 16
 fewest t = omega arith
 
-pub fills : (t : ℕ) → t + 1 + zeroBytes t ≡ 16 * blocksFor t
-fills t = omega arith
+pub no-fewer : (t z k : ℕ) → t + 1 + z ≡ 16 * k → zeroBytes t ≤ z
+no-fewer t z k e = omega arith
 
 pub length-padded : (s : List ℕ) → length (padded s) ≡ 16 * blocksFor (length s)
 unfolding padded
@@ -107,7 +110,7 @@ seen-by s n true e q =
       whole = eqb-true (length s % 16) 0 (a .0);
       ends = omega arith;
       one = rw m at (eqb-true (getD s (end s - 1) 0) 0x80 (c .0));
-      last = omega arith
+      last = omega arith;
     }
 seen-by s n false e q = let z : _≡_ {A = ℕ} 0 1 = cc in omega arith
 
@@ -120,13 +123,14 @@ pub seen-text : (s : List ℕ) (n : ℕ) → Seen s n → unpadded s ≡ Text n
 unfolding unpadded rightly
 seen-text s n k =
     let p : suc n - 1 ≡ n = omega arith in
-    simp
-    (k .ends,
-    eq-eqb (length s % 16) 0 (k .whole),
-    lt-ltb 0 (suc n) (omega arith),
-    p,
-    k .one,
-    lt-ltb (length s) (suc n + 16) (omega (arith, k .last)))
+    simp (
+      k .ends,
+      eq-eqb (length s % 16) 0 (k .whole),
+      lt-ltb 0 (suc n) (omega arith),
+      p,
+      k .one,
+      lt-ltb (length s) (suc n + 16) (omega (arith, k .last)),
+    )
 
 malformed-by : (s : List ℕ) (u : Unpadded) → unpadded s ≡ u → ((n : ℕ) → Seen s n → ⊥) → u ≡ Malformed
 malformed-by s (Text n) e f = absurd (f n (seen s n e))
@@ -169,5 +173,5 @@ unpadded-padded s =
       whole = omega (arith, length-padded s);
       ends = end-padded s;
       one = padded-one s;
-      last = omega (arith, length-padded s)
+      last = omega (arith, length-padded s);
     })

@@ -10,8 +10,6 @@ use Rattle.padding.specs.Method2.{textEnd}
 use Rattle.padding.specs.Laws.{textEnd-le, end-zero, end-moves}
 use Rattle.padding.proofs.end_from.Statement.{statement}
 use Rattle.padding.proofs.end_from.Tie as tie
-use Rattle.padding.proofs.end_from.Reads as reads
-use Rattle.padding.proofs.end_from.Lts as lts
 
 abbrev Inv-loop : tie.InvT-loop
 Inv-loop s start end₀ i₀ end i = (start ≤ i) × (i ≤ length s) × (end ≡ max start (textEnd s i))
@@ -38,11 +36,12 @@ loop-again : tie.Need-loop-again Inv-loop μ-loop
 loop-again c =
     let b = c .before .before .before in
     let s = b .before .args .s .now in
-    let more = ap (textEnd s) (add-one (b .loop .i)) in
-    (omega arith,
-    omega arith,
-    ⊎-elim (λ w. omega (arith, more ∙ end-moves s (b .loop .i) (w .0 .taken))) (λ w. omega (arith, more ∙ end-zero s (b .loop .i) (w .0 .left)))
-    (c .if1 .came))
+    let more = ap (textEnd s) (add-one (b .loop .i)) in (
+      omega arith,
+      omega arith,
+      ⊎-elim (λ w. omega (arith, more ∙ end-moves s (b .loop .i) (w .0 .taken))) (λ w. omega (arith, more ∙ end-zero s (b .loop .i) (w .0 .left)))
+          (c .if1 .came),
+    )
 
 returns : tie.Need-returns Inv-loop μ-loop
 returns c =

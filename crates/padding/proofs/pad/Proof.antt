@@ -5,14 +5,11 @@ use native.Mathlib.Omega.{arith}
 use borrow.Author.Needs.{needs}
 use lib.ListN.{length, length-set, replicate, set}
 use Rattle.octets.specs.Lists.{over}
-use Rattle.padding.specs.Method2.{blocksFor, zeroBytes}
+use Rattle.padding.specs.Method2.{blocksFor}
 use Rattle.padding.specs.declared.Padded.the-variants.{To}
 use Rattle.padding.proofs.Buffer.{zero-turn, zero-done, answer-fits, buffer-fits, answer-short, buffer-short}
 use Rattle.padding.proofs.pad.Statement.{statement}
 use Rattle.padding.proofs.pad.Tie as tie
-use Rattle.padding.proofs.pad.Reads as reads
-use Rattle.padding.proofs.pad.Lts as lts
-use Rattle.padding.proofs.blocks_for.Reads as blocks-for-reads
 
 abbrev Inv-loop : tie.InvT-loop
 Inv-loop buf₀ t blocks end i₀ buf i =
@@ -42,9 +39,7 @@ add-i : tie.Need-add-i Inv-loop μ-loop
 add-i c = search needs
 
 loop-holds : tie.Need-loop-holds Inv-loop μ-loop
-loop-holds c =
-    let a = c .before .before .before .args in
-    (refl, omega (arith, length-set (a .buf .now) (a .t) 0x80), refl)
+loop-holds c = (refl, simp length-set (omega arith), refl)
 
 slice-write-buf-2 : tie.Need-slice-write-buf-2 Inv-loop μ-loop
 slice-write-buf-2 c = search needs
@@ -58,21 +53,20 @@ loop-less c = search needs
 loop-again : tie.Need-loop-again Inv-loop μ-loop
 loop-again c =
     let q = c .before .loop .inv in
-    (length-set (c .before .loop .buf) (c .before .loop .i) 0 ∙ q .0, q .1, zero-turn _ _ _ _ (c .loop-test .taken) (omega arith) (q .2))
+    (simp length-set (simp length-set at (q .0)), q .1, zero-turn _ _ _ _ (c .loop-test .taken) (omega arith) (q .2))
 
 same-length : tie.Need-same-length Inv-loop μ-loop
-same-length c =
-    let a = c .before .before .before .before .before .args in
-    c .before .loop .inv .0 ∙ length-set (a .buf .now) (a .t) 0x80
+same-length c = simp length-set at (c .before .loop .inv .0)
 
 returns-2 : tie.Need-returns-2 Inv-loop μ-loop
 returns-2 c =
     let a = c .before .before .before .before .before .args in
     let b = c .before .before .before .blocks-for in
     let l : 16 * blocksFor (a .t) ≤ length (a .buf .now) = omega arith in
-    let e = ap (λ n. over (set (a .buf .now) (a .t) 0x80) (a .t + 1) (replicate (16 * n - (a .t + 1)) 0)) (b .ensures) in
-    (ap (λ n. To (16 * n)) (b .ensures) ∙ sym (answer-fits (a .buf .now) (a .t) l),
-    zero-done _ _ _ _ (c .loop-test .left) (c .before .loop .inv .2) ∙ e ∙ buffer-fits (a .buf .now) (a .t) l)
+    let e = ap (λ n. over (set (a .buf .now) (a .t) 0x80) (a .t + 1) (replicate (16 * n - (a .t + 1)) 0)) (b .ensures) in (
+      ap (λ n. To (16 * n)) (b .ensures) ∙ sym (answer-fits (a .buf .now) (a .t) l),
+      zero-done _ _ _ _ (c .loop-test .left) (c .before .loop .inv .2) ∙ e ∙ buffer-fits (a .buf .now) (a .t) l,
+    )
 
 pub pad-spec : {M : Type 1} → statement M
 pad-spec =

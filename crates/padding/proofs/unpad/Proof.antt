@@ -1,16 +1,12 @@
 -- `unpad` meets its contract. Each answer rests on what is seen of a padded text, `Seen` of Laws. Assumes nothing.
-use Prim.Native.Nat.{_<_, _≤_, _%_, _-_, suc}
+use Prim.Native.Nat.{_-_}
 use mathlib.Core.Path.{_≡_, ap, sym, _∙_}
 use native.Mathlib.Omega.{arith}
 use borrow.Author.Needs.{needs}
 use lib.ListN.{length, getD}
-use Rattle.padding.specs.Method2.{end}
 use Rattle.padding.specs.Laws.{textEnd-le, seen-text, seen-none}
 use Rattle.padding.proofs.unpad.Statement.{statement}
 use Rattle.padding.proofs.unpad.Tie as tie
-use Rattle.padding.proofs.unpad.Reads as reads
-use Rattle.padding.proofs.unpad.Lts as lts
-use Rattle.padding.proofs.end_from.Reads as end-from-reads
 
 returns : tie.Need-returns
 returns c = sym (seen-none (c .before .before .args .s .now) (λ m k. c .if1 .taken (k .whole)))
@@ -46,7 +42,7 @@ returns-4 c =
       whole = c .before .before .before .before .before .if1 .left;
       ends = omega arith;
       one = c .if4 .taken;
-      last = omega arith
+      last = omega arith;
     }))
 
 returns-5 : tie.Need-returns-5
