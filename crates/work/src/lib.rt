@@ -36,10 +36,11 @@ pub fn mix_step(s: u32, kind: u8, key: &[u8], input: &[u8], output: &[u8]) -> u3
 pub fn mix_rows(s: u32, rows: &[[u8; 16]; 11]) -> u32
     ensures { λ r. ⌜ r ≡ mixedAll s (flatten (now (rows .entry))) ⌝ }
 {
+    let list = &rows[..];
     let mut sum = s;
     let mut i = 0;
-    while i < 11 {
-        sum = mix_all(sum, &rows[i]);
+    while i < list.len() {
+        sum = mix_all(sum, &list[i]);
         i += 1;
     }
     sum

@@ -1,4 +1,12 @@
+-- `mix_rows` meets its contract. The loop's law is that of Turns. Assumes nothing.
+use Prim.Native.Nat.{_≤_, _-_}
+use mathlib.Core.Path.{_≡_}
+use mathlib.Core.List.{flatten}
+use native.Mathlib.Omega.{arith}
 use borrow.Author.Needs.{needs}
+use lib.ListN.{length, drop}
+use Rattle.work.specs.Steps.{mixedAll}
+use Rattle.work.proofs.Turns.{rows-turn, rows-done}
 use Rattle.work.proofs.mix_rows.Statement.{statement}
 use Rattle.work.proofs.mix_rows.Tie as tie
 use Rattle.work.proofs.mix_rows.Reads as reads
@@ -6,42 +14,44 @@ use Rattle.work.proofs.mix_rows.Lts as lts
 use Rattle.work.proofs.mix_all.Reads as mix-all-reads
 
 abbrev Inv-loop : tie.InvT-loop
-Inv-loop s rows sum₀ i₀ sum i = ?
+Inv-loop s rows list sum₀ i₀ sum i = (i ≤ length rows) × (mixedAll sum (flatten (drop i rows)) ≡ mixedAll s (flatten rows))
 
 abbrev μ-loop : tie.MeasureT-loop
-μ-loop s rows sum₀ i₀ sum i = ?
+μ-loop s rows list sum₀ i₀ sum i = length rows - i
 
--- src/lib.rt:41:5
+-- src/lib.rt:42:5
 loop-holds : tie.Need-loop-holds Inv-loop μ-loop
 loop-holds c = search needs
 
--- src/lib.rt:42:28
+-- src/lib.rt:43:28
 mul-mix-all : tie.Need-mul-mix-all Inv-loop μ-loop
 mul-mix-all c = search needs
 
--- src/lib.rt:42:28
-index-1-mix-all : tie.Need-index-1-mix-all Inv-loop μ-loop
-index-1-mix-all c = search needs
+-- src/lib.rt:43:28
+shared-slice-element-mix-all : tie.Need-shared-slice-element-mix-all Inv-loop μ-loop
+shared-slice-element-mix-all c = search needs
 
--- src/lib.rt:42:9
+-- src/lib.rt:43:9
 mix-all-requires : tie.Need-mix-all-requires Inv-loop μ-loop
 mix-all-requires c κs = search needs
 
--- src/lib.rt:43:9
+-- src/lib.rt:44:9
 add-i : tie.Need-add-i Inv-loop μ-loop
 add-i c = search needs
 
--- src/lib.rt:41:5
+-- src/lib.rt:42:5
 loop-less : tie.Need-loop-less Inv-loop μ-loop
 loop-less c = search needs
 
--- src/lib.rt:41:5
+-- src/lib.rt:42:5
 loop-again : tie.Need-loop-again Inv-loop μ-loop
-loop-again c = search needs
+loop-again c =
+    let b = c .before .before .before in
+    (omega arith, rows-turn _ _ _ _ _ (b .loop-test .taken) (c .mix-all .ensures) (b .before .loop .inv .1))
 
 -- src/lib.rt:36:1
 returns : tie.Need-returns Inv-loop μ-loop
-returns c = search needs
+returns c = rows-done _ _ _ _ (c .loop-test .left) (c .before .loop .inv .1)
 
 pub mix-rows-spec : {M : Type 1} → statement M
 mix-rows-spec =
@@ -51,7 +61,7 @@ mix-rows-spec =
     μ-loop
     loop-holds
     mul-mix-all
-    index-1-mix-all
+    shared-slice-element-mix-all
     mix-all-requires
     add-i
     loop-less

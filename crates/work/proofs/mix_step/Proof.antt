@@ -1,4 +1,6 @@
+-- `mix_step` meets its contract: the sum of the parts one after the other is that of the whole. Assumes nothing.
 use borrow.Author.Needs.{needs}
+use Rattle.work.specs.Laws.{mixedAll-append}
 use Rattle.work.proofs.mix_step.Statement.{statement}
 use Rattle.work.proofs.mix_step.Tie as tie
 use Rattle.work.proofs.mix_step.Reads as reads
@@ -24,7 +26,13 @@ mix-all-requires-3 c κs = search needs
 
 -- src/lib.rt:26:1
 returns : tie.Need-returns
-returns c = search needs
+returns c =
+    simp
+    (c .mix-all3 .ensures,
+    c .before .mix-all2 .ensures,
+    c .before .before .mix-all .ensures,
+    c .before .before .before .mix .ensures,
+    mixedAll-append)
 
 pub mix-step-spec : {M : Type 1} → statement M
 mix-step-spec =
