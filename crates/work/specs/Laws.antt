@@ -1,13 +1,10 @@
 -- Laws of the work sum and the counts: what lists one behind the other give. Assumes nothing.
 use mathlib.Core.Bool.{cond}
-use mathlib.Core.Path.{_≡_, refl, sym, ap, _∙_}
-use mathlib.Core.List.{List, [], _∷_, _++_, flatten}
-use Prim.Native.Nat.{ℕ, suc, _+_, _%_, _^_, _<_, _≤_}
+use mathlib.Core.Path.{_≡_, refl, sym}
+use mathlib.Core.List.{List, [], _∷_, _++_}
+use Prim.Native.Nat.{ℕ, _+_}
 use native.Mathlib.Nat.{zero-add, add-assoc}
-use native.Mathlib.Numerals.{add-one}
 use lib.Dec.{eqb}
-use lib.ListN.{length, drop, getD, drop-of-length-le}
-use lib.Seq.{drop-cons}
 use Rattle.work.specs.Steps.{Step, bytesOf, mixed, mixedAll, sumFrom, counted}
 
 pub mixedAll-append : (s : ℕ) (xs ys : List ℕ) → mixedAll s (xs ++ ys) ≡ mixedAll (mixedAll s xs) ys

@@ -38,10 +38,10 @@ pub fn mix_rows(s: u32, rows: &[[u8; 16]; 11]) -> u32
 {
     let list = &rows[..];
     let mut sum = s;
-    let mut i = 0;
-    while i < list.len() {
-        sum = mix_all(sum, &list[i]);
-        i += 1;
+    let mut row = 0;
+    while row < list.len() {
+        sum = mix_all(sum, &list[row]);
+        row += 1;
     }
     sum
 }

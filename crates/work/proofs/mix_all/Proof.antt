@@ -8,9 +8,6 @@ use Rattle.work.specs.Steps.{mixedAll}
 use Rattle.work.proofs.Turns.{bytes-turn, bytes-done}
 use Rattle.work.proofs.mix_all.Statement.{statement}
 use Rattle.work.proofs.mix_all.Tie as tie
-use Rattle.work.proofs.mix_all.Reads as reads
-use Rattle.work.proofs.mix_all.Lts as lts
-use Rattle.work.proofs.mix.Reads as mix-reads
 
 abbrev Inv-loop : tie.InvT-loop
 Inv-loop s bytes sum₀ i₀ sum i = (i ≤ length bytes) × (mixedAll sum (drop i bytes) ≡ mixedAll s bytes)
@@ -18,33 +15,26 @@ Inv-loop s bytes sum₀ i₀ sum i = (i ≤ length bytes) × (mixedAll sum (drop
 abbrev μ-loop : tie.MeasureT-loop
 μ-loop s bytes sum₀ i₀ sum i = length bytes - i
 
--- src/lib.rt:18:5
 loop-holds : tie.Need-loop-holds Inv-loop μ-loop
 loop-holds c = search needs
 
--- src/lib.rt:19:24
 shared-slice-read-mix : tie.Need-shared-slice-read-mix Inv-loop μ-loop
 shared-slice-read-mix c = search needs
 
--- src/lib.rt:19:9
 mix-requires : tie.Need-mix-requires Inv-loop μ-loop
 mix-requires c κs = search needs
 
--- src/lib.rt:20:9
 add-i : tie.Need-add-i Inv-loop μ-loop
 add-i c = search needs
 
--- src/lib.rt:18:5
 loop-less : tie.Need-loop-less Inv-loop μ-loop
 loop-less c = search needs
 
--- src/lib.rt:18:5
 loop-again : tie.Need-loop-again Inv-loop μ-loop
 loop-again c =
     let b = c .before .before in
     (omega arith, bytes-turn _ _ _ _ _ (b .loop-test .taken) (c .mix .ensures) (b .before .loop .inv .1))
 
--- src/lib.rt:13:1
 returns : tie.Need-returns Inv-loop μ-loop
 returns c = bytes-done _ _ _ _ (c .loop-test .left) (c .before .loop .inv .1)
 

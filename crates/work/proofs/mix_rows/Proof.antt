@@ -9,47 +9,36 @@ use Rattle.work.specs.Steps.{mixedAll}
 use Rattle.work.proofs.Turns.{rows-turn, rows-done}
 use Rattle.work.proofs.mix_rows.Statement.{statement}
 use Rattle.work.proofs.mix_rows.Tie as tie
-use Rattle.work.proofs.mix_rows.Reads as reads
-use Rattle.work.proofs.mix_rows.Lts as lts
-use Rattle.work.proofs.mix_all.Reads as mix-all-reads
 
 abbrev Inv-loop : tie.InvT-loop
-Inv-loop s rows list sum₀ i₀ sum i = (i ≤ length rows) × (mixedAll sum (flatten (drop i rows)) ≡ mixedAll s (flatten rows))
+Inv-loop s rows list sum₀ row₀ sum row = (row ≤ length rows) × (mixedAll sum (flatten (drop row rows)) ≡ mixedAll s (flatten rows))
 
 abbrev μ-loop : tie.MeasureT-loop
-μ-loop s rows list sum₀ i₀ sum i = length rows - i
+μ-loop s rows list sum₀ row₀ sum row = length rows - row
 
--- src/lib.rt:42:5
 loop-holds : tie.Need-loop-holds Inv-loop μ-loop
 loop-holds c = search needs
 
--- src/lib.rt:43:28
 mul-mix-all : tie.Need-mul-mix-all Inv-loop μ-loop
 mul-mix-all c = search needs
 
--- src/lib.rt:43:28
 shared-slice-element-mix-all : tie.Need-shared-slice-element-mix-all Inv-loop μ-loop
 shared-slice-element-mix-all c = search needs
 
--- src/lib.rt:43:9
 mix-all-requires : tie.Need-mix-all-requires Inv-loop μ-loop
 mix-all-requires c κs = search needs
 
--- src/lib.rt:44:9
-add-i : tie.Need-add-i Inv-loop μ-loop
-add-i c = search needs
+add-row : tie.Need-add-row Inv-loop μ-loop
+add-row c = search needs
 
--- src/lib.rt:42:5
 loop-less : tie.Need-loop-less Inv-loop μ-loop
 loop-less c = search needs
 
--- src/lib.rt:42:5
 loop-again : tie.Need-loop-again Inv-loop μ-loop
 loop-again c =
     let b = c .before .before .before in
     (omega arith, rows-turn _ _ _ _ _ (b .loop-test .taken) (c .mix-all .ensures) (b .before .loop .inv .1))
 
--- src/lib.rt:36:1
 returns : tie.Need-returns Inv-loop μ-loop
 returns c = rows-done _ _ _ _ (c .loop-test .left) (c .before .loop .inv .1)
 
@@ -63,7 +52,7 @@ mix-rows-spec =
     mul-mix-all
     shared-slice-element-mix-all
     mix-all-requires
-    add-i
+    add-row
     loop-less
     loop-again
     returns)

@@ -3,36 +3,28 @@ use borrow.Author.Needs.{needs}
 use Rattle.work.specs.Laws.{mixedAll-append}
 use Rattle.work.proofs.mix_step.Statement.{statement}
 use Rattle.work.proofs.mix_step.Tie as tie
-use Rattle.work.proofs.mix_step.Reads as reads
-use Rattle.work.proofs.mix_step.Lts as lts
-use Rattle.work.proofs.mix.Reads as mix-reads
-use Rattle.work.proofs.mix_all.Reads as mix-all-reads
 
--- src/lib.rt:29:9
 mix-requires : tie.Need-mix-requires
 mix-requires c κs = search needs
 
--- src/lib.rt:30:9
 mix-all-requires : tie.Need-mix-all-requires
 mix-all-requires c κs = search needs
 
--- src/lib.rt:31:9
 mix-all-requires-2 : tie.Need-mix-all-requires-2
 mix-all-requires-2 c κs = search needs
 
--- src/lib.rt:32:5
 mix-all-requires-3 : tie.Need-mix-all-requires-3
 mix-all-requires-3 c κs = search needs
 
--- src/lib.rt:26:1
 returns : tie.Need-returns
 returns c =
-    simp
-    (c .mix-all3 .ensures,
-    c .before .mix-all2 .ensures,
-    c .before .before .mix-all .ensures,
-    c .before .before .before .mix .ensures,
-    mixedAll-append)
+    simp (
+      c .mix-all3 .ensures,
+      c .before .mix-all2 .ensures,
+      c .before .before .mix-all .ensures,
+      c .before .before .before .mix .ensures,
+      mixedAll-append,
+    )
 
 pub mix-step-spec : {M : Type 1} → statement M
 mix-step-spec =
