@@ -1,0 +1,2 @@
+pub mod Method2
+pub mod Laws

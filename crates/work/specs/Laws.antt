@@ -1,0 +1,20 @@
+-- Laws of the work sum and the counts: what lists one behind the other give. Assumes nothing.
+use mathlib.Core.Bool.{cond}
+use mathlib.Core.Path.{_≡_, refl, sym}
+use mathlib.Core.List.{List, [], _∷_, _++_}
+use Prim.Native.Nat.{ℕ, _+_}
+use native.Mathlib.Nat.{zero-add, add-assoc}
+use lib.Dec.{eqb}
+use Rattle.work.specs.Steps.{Step, bytesOf, mixed, mixedAll, sumFrom, counted}
+
+pub mixedAll-append : (s : ℕ) (xs ys : List ℕ) → mixedAll s (xs ++ ys) ≡ mixedAll (mixedAll s xs) ys
+mixedAll-append s [] ys = refl
+mixedAll-append s (x ∷ xs) ys = mixedAll-append (mixed s x) xs ys
+
+pub sumFrom-append : (s : ℕ) (xs ys : List Step) → sumFrom s (xs ++ ys) ≡ sumFrom (sumFrom s xs) ys
+sumFrom-append s [] ys = refl
+sumFrom-append s (x ∷ xs) ys = sumFrom-append (mixedAll s (bytesOf x)) xs ys
+
+pub counted-append : (k : ℕ) (xs ys : List Step) → counted k (xs ++ ys) ≡ counted k xs + counted k ys
+counted-append k [] ys = sym (zero-add (counted k ys))
+counted-append k (x ∷ xs) ys = rw (counted-append k xs ys) (sym (add-assoc (cond (eqb (x .kind) k) 1 0) (counted k xs) (counted k ys)))
