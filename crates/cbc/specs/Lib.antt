@@ -1,0 +1,3 @@
+pub mod Cbc
+pub mod Steps
+pub mod Laws
