@@ -16,5 +16,8 @@ blockAt m i = table (λ j. getD (pad m) (64 * i + j) 0) 64 0
 
 -- "Since the 512 bits of the input block may be expressed as sixteen 32-bit words, the first 32 bits of message block i are denoted M0(i),
 -- the next 32 bits are M1(i), and so on up to M15(i)."
+abbrev pub blockWord : List ℕ → ℕ → ℕ
+blockWord b t = word (getD b (4 * t) 0) (getD b (4 * t + 1) 0) (getD b (4 * t + 2) 0) (getD b (4 * t + 3) 0)
+
 unfoldable pub blockWords : List ℕ → List ℕ
-blockWords b = table (λ t. word (getD b (4 * t) 0) (getD b (4 * t + 1) 0) (getD b (4 * t + 2) 0) (getD b (4 * t + 3) 0)) 16 0
+blockWords b = table (blockWord b) 16 0

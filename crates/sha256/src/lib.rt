@@ -1,7 +1,7 @@
 ghost use mathlib.Core.Path.{_≡_};
 ghost use Prim.Native.Nat.{_+_, _-_, _*_, _/_, _%_, _^_, _<_, _≤_};
 ghost use lib.ListN.{getD, take};
-ghost use Rattle.sha256.specs.Words.{plus, word};
+ghost use Rattle.sha256.specs.Words.{plus, word, wordBytes};
 ghost use Rattle.sha256.specs.Functions.{ch, maj, upperSigma0, upperSigma1, sigma0, sigma1};
 ghost use Rattle.sha256.specs.Padding.{pad};
 ghost use Rattle.sha256.specs.Parsing.{blocks, blockAt, blockWords};
@@ -295,7 +295,7 @@ pub fn padded_block(m: &[u8], i: usize) -> [u8; 64]
 // Byte k of a word, the first the most significant.
 fn word_byte(x: u32, k: usize) -> u8
     requires { ⌜ k < 4 ⌝ }
-    ensures { λ r. ⌜ r ≡ x / 2 ^ (24 - 8 * k) % 256 ⌝ }
+    ensures { λ r. ⌜ r ≡ getD (wordBytes x) k 0 ⌝ }
 {
     ((x >> (24 - 8 * k)) % 256) as u8
 }

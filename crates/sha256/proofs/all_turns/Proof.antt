@@ -1,55 +1,64 @@
+-- `sha256::all_turns` meets its contract. The loop's invariant: v is what i turns made of h. Assumes nothing.
+use mathlib.Core.Path.{_≡_, refl, sym, ap, ap₂, _∙_}
+use mathlib.Core.List.{List}
+use Prim.Native.Nat.{ℕ, _-_, _≤_}
+use native.Mathlib.Omega.{arith}
+use native.Mathlib.Numerals.{add-one}
+use lib.ListN.{length, getD}
+use Rattle.sha256.specs.Constants.{constants}
+use Rattle.sha256.specs.Hash.{turn, turns}
 use borrow.Author.Needs.{needs}
 use Rattle.sha256.proofs.all_turns.Statement.{statement}
 use Rattle.sha256.proofs.all_turns.Tie as tie
-use Rattle.sha256.proofs.all_turns.Reads as reads
-use Rattle.sha256.proofs.all_turns.Lts as lts
-use Rattle.sha256.proofs.one_turn.Reads as one-turn-reads
 
 abbrev Inv-loop : tie.InvT-loop
-Inv-loop w k v₀ i₀ v i = ?
+Inv-loop w k v₀ i₀ v i = (k ≡ constants) × (i ≤ 64) × (v ≡ turns w v₀ i)
 
 abbrev μ-loop : tie.MeasureT-loop
-μ-loop w k v₀ i₀ v i = ?
+μ-loop w k v₀ i₀ v i = 64 - i
 
--- src/lib.rt:193:5
 loop-holds : tie.Need-loop-holds Inv-loop μ-loop
-loop-holds c = search needs
+unfolding constants turns
+loop-holds c = (refl, search needs, refl)
 
--- src/lib.rt:194:29
 mul-one-turn : tie.Need-mul-one-turn Inv-loop μ-loop
 mul-one-turn c = search needs
 
--- src/lib.rt:194:29
 array-read-one-turn : tie.Need-array-read-one-turn Inv-loop μ-loop
 array-read-one-turn c = search needs
 
--- src/lib.rt:194:35
 mul-one-turn-2 : tie.Need-mul-one-turn-2 Inv-loop μ-loop
 mul-one-turn-2 c = search needs
 
--- src/lib.rt:194:35
 array-read-one-turn-2 : tie.Need-array-read-one-turn-2 Inv-loop μ-loop
 array-read-one-turn-2 c = search needs
 
--- src/lib.rt:194:13
 one-turn-requires : tie.Need-one-turn-requires Inv-loop μ-loop
 one-turn-requires c κs = search needs
 
--- src/lib.rt:196:9
 add-i : tie.Need-add-i Inv-loop μ-loop
 add-i c = search needs
 
--- src/lib.rt:193:5
 loop-less : tie.Need-loop-less Inv-loop μ-loop
 loop-less c = search needs
 
--- src/lib.rt:193:5
 loop-again : tie.Need-loop-again Inv-loop μ-loop
-loop-again c = search needs
+unfolding turns
+loop-again c =
+    let l = c .before .before .loop in
+    let a = c .before .before .before .args in
+    ( l .inv .0
+    , omega arith
+    , c .one-turn .ensures
+      ∙ ap₂ (λ (v k : List ℕ). turn v (getD k (l .i) 0) (getD (a .t1) (l .i) 0)) (l .inv .2) (l .inv .0)
+      ∙ ap (turns (a .t1) (a .h)) (sym (add-one (l .i)))
+    )
 
--- src/lib.rt:187:1
 returns : tie.Need-returns Inv-loop μ-loop
-returns c = search needs
+returns c =
+    let l = c .before .loop in
+    let e : l .i ≡ 64 = omega arith in
+    l .inv .2 ∙ ap (turns (c .before .before .args .t1) (c .before .before .args .h)) e
 
 pub all-turns-spec : {M : Type 1} → statement M
 all-turns-spec =

@@ -1,79 +1,76 @@
+-- `sha256::load` meets its contract. The loop's invariant: the first i places hold the block's words. Assumes nothing.
+use mathlib.Core.Path.{_≡_, refl, _∙_}
+use Prim.Native.Nat.{ℕ, _-_, _≤_}
+use native.Mathlib.Omega.{arith}
+use lib.ListN.{length, take}
+use lib.Seq.{getD-take, length-take-le}
+use Rattle.octets.specs.Lists.{tabled}
+use Rattle.octets.specs.Filled.{Filled, filled-none, filled-more}
+use Rattle.sha256.specs.Parsing.{blockWord, blockWords}
 use borrow.Author.Needs.{needs}
 use Rattle.sha256.proofs.load.Statement.{statement}
 use Rattle.sha256.proofs.load.Tie as tie
-use Rattle.sha256.proofs.load.Reads as reads
-use Rattle.sha256.proofs.load.Lts as lts
-use Rattle.sha256.proofs.word_of.Reads as word-of-reads
 
 abbrev Inv-loop : tie.InvT-loop
-Inv-loop b w₀ i₀ w i = ?
+Inv-loop b w₀ i₀ w i = (length w₀ ≡ 64) × (i ≤ 16) × Filled (blockWord b) w₀ w i
 
 abbrev μ-loop : tie.MeasureT-loop
-μ-loop b w₀ i₀ w i = ?
+μ-loop b w₀ i₀ w i = 16 - i
 
--- src/lib.rt:148:5
 loop-holds : tie.Need-loop-holds Inv-loop μ-loop
-loop-holds c = search needs
+loop-holds c = (refl, search needs, filled-none _ _)
 
--- src/lib.rt:149:17
 mul-j : tie.Need-mul-j Inv-loop μ-loop
 mul-j c = search needs
 
--- src/lib.rt:150:24
 element-copy-out-word-of : tie.Need-element-copy-out-word-of Inv-loop μ-loop
 element-copy-out-word-of c = search needs
 
--- src/lib.rt:150:32
 add-word-of : tie.Need-add-word-of Inv-loop μ-loop
 add-word-of c = search needs
 
--- src/lib.rt:150:30
 element-copy-out-word-of-2 : tie.Need-element-copy-out-word-of-2 Inv-loop μ-loop
 element-copy-out-word-of-2 c = search needs
 
--- src/lib.rt:150:42
 add-word-of-2 : tie.Need-add-word-of-2 Inv-loop μ-loop
 add-word-of-2 c = search needs
 
--- src/lib.rt:150:40
 element-copy-out-word-of-3 : tie.Need-element-copy-out-word-of-3 Inv-loop μ-loop
 element-copy-out-word-of-3 c = search needs
 
--- src/lib.rt:150:52
 add-word-of-3 : tie.Need-add-word-of-3 Inv-loop μ-loop
 add-word-of-3 c = search needs
 
--- src/lib.rt:150:50
 element-copy-out-word-of-4 : tie.Need-element-copy-out-word-of-4 Inv-loop μ-loop
 element-copy-out-word-of-4 c = search needs
 
--- src/lib.rt:150:16
 word-of-requires : tie.Need-word-of-requires Inv-loop μ-loop
 word-of-requires c κs = search needs
 
--- src/lib.rt:150:9
 mul-w : tie.Need-mul-w Inv-loop μ-loop
 mul-w c = search needs
 
--- src/lib.rt:150:9
 array-write-w : tie.Need-array-write-w Inv-loop μ-loop
 array-write-w c = search needs
 
--- src/lib.rt:151:9
 add-i : tie.Need-add-i Inv-loop μ-loop
 add-i c = search needs
 
--- src/lib.rt:148:5
 loop-less : tie.Need-loop-less Inv-loop μ-loop
 loop-less c = search needs
 
--- src/lib.rt:148:5
 loop-again : tie.Need-loop-again Inv-loop μ-loop
-loop-again c = search needs
+loop-again c =
+    let l = c .before .before .before .before .before .before .loop in
+    (l .inv .0, omega arith, filled-more (l .inv .2) (omega arith) (c .word-of .ensures))
 
--- src/lib.rt:143:1
 returns : tie.Need-returns Inv-loop μ-loop
-returns c = search needs
+unfolding blockWords
+returns c =
+    let l = c .before .loop in
+    let e : length (take 16 (l .w)) ≡ 16 = length-take-le 16 (l .w) (omega arith) in
+    tabled (blockWord (c .before .before .args .b .now)) 16 0 (take 16 (l .w)) 0 (omega arith)
+    (λ k h. getD-take 16 (l .w) k 0 (omega arith) ∙ l .inv .2 .done k (omega arith))
 
 pub load-spec : {M : Type 1} → statement M
 load-spec =

@@ -1,93 +1,89 @@
+-- `sha256::one_turn` meets its contract: each call's result goes into the next sum. Assumes nothing.
+use mathlib.Core.Path.{_≡_, refl, ap₂}
+use mathlib.Core.List.{List, [], _∷_}
+use Prim.Native.Nat.{ℕ}
+use lib.ListN.{getD}
+use Rattle.sha256.specs.Hash.{t1, t2, turn}
+use Rattle.sha256.proofs.Sums.{summed}
 use borrow.Author.Needs.{needs}
 use Rattle.sha256.proofs.one_turn.Statement.{statement}
 use Rattle.sha256.proofs.one_turn.Tie as tie
-use Rattle.sha256.proofs.one_turn.Reads as reads
-use Rattle.sha256.proofs.one_turn.Lts as lts
-use Rattle.sha256.proofs.add.Reads as add-reads
-use Rattle.sha256.proofs.choose.Reads as choose-reads
-use Rattle.sha256.proofs.majority.Reads as majority-reads
-use Rattle.sha256.proofs.upper_sigma0.Reads as upper-sigma0-reads
-use Rattle.sha256.proofs.upper_sigma1.Reads as upper-sigma1-reads
 
--- src/lib.rt:125:13
 array-read-a : tie.Need-array-read-a
 array-read-a c = search needs
 
--- src/lib.rt:126:13
 array-read-b : tie.Need-array-read-b
 array-read-b c = search needs
 
--- src/lib.rt:127:13
 array-read-c : tie.Need-array-read-c
 array-read-c c = search needs
 
--- src/lib.rt:128:13
 array-read-e : tie.Need-array-read-e
 array-read-e c = search needs
 
--- src/lib.rt:129:13
 array-read-f : tie.Need-array-read-f
 array-read-f c = search needs
 
--- src/lib.rt:130:13
 array-read-g : tie.Need-array-read-g
 array-read-g c = search needs
 
--- src/lib.rt:131:30
 array-read-add : tie.Need-array-read-add
 array-read-add c = search needs
 
--- src/lib.rt:131:36
 upper-sigma1-requires : tie.Need-upper-sigma1-requires
 upper-sigma1-requires c κs = search needs
 
--- src/lib.rt:131:26
 add-requires : tie.Need-add-requires
 add-requires c κs = search needs
 
--- src/lib.rt:131:54
 choose-requires : tie.Need-choose-requires
 choose-requires c κs = search needs
 
--- src/lib.rt:131:22
 add-requires-2 : tie.Need-add-requires-2
 add-requires-2 c κs = search needs
 
--- src/lib.rt:131:18
 add-requires-3 : tie.Need-add-requires-3
 add-requires-3 c κs = search needs
 
--- src/lib.rt:131:9
 add-requires-4 : tie.Need-add-requires-4
 add-requires-4 c κs = search needs
 
--- src/lib.rt:132:18
 upper-sigma0-requires : tie.Need-upper-sigma0-requires
 upper-sigma0-requires c κs = search needs
 
--- src/lib.rt:132:35
 majority-requires : tie.Need-majority-requires
 majority-requires c κs = search needs
 
--- src/lib.rt:132:9
 add-requires-5 : tie.Need-add-requires-5
 add-requires-5 c κs = search needs
 
--- src/lib.rt:133:6
 add-requires-6 : tie.Need-add-requires-6
 add-requires-6 c κs = search needs
 
--- src/lib.rt:133:32
 array-read-add-2 : tie.Need-array-read-add-2
 array-read-add-2 c = search needs
 
--- src/lib.rt:133:28
 add-requires-7 : tie.Need-add-requires-7
 add-requires-7 c κs = search needs
 
--- src/lib.rt:122:1
 returns : tie.Need-returns
-returns c = search needs
+unfolding turn
+returns c =
+    let p = c .before .before .before .before .before .before .before .before .before .before .before .args in
+    let v = p .t1 in
+    let x : c .before .before .before .before .before .add4 .result ≡ t1 (getD v 4 0) (getD v 5 0) (getD v 6 0) (getD v 7 0) (p .k) (p .w) =
+        summed (c .before .before .before .before .before .add4 .ensures)
+        (summed (c .before .before .before .before .before .before .add3 .ensures)
+        (summed (c .before .before .before .before .before .before .before .add2 .ensures)
+        (summed (c .before .before .before .before .before .before .before .before .before .add .ensures) refl (c .before .before .before .before .before .before .before .before .before .before .upper-sigma1 .ensures))
+        (c .before .before .before .before .before .before .before .before .choose .ensures))
+        refl)
+        refl in
+    let y : c .before .before .add5 .result ≡ t2 (getD v 0 0) (getD v 1 0) (getD v 2 0) =
+        summed (c .before .before .add5 .ensures) (c .before .before .before .before .upper-sigma0 .ensures) (c .before .before .before .majority .ensures) in
+    ap₂ (λ (a e : ℕ). a ∷ getD v 0 0 ∷ getD v 1 0 ∷ getD v 2 0 ∷ e ∷ getD v 4 0 ∷ getD v 5 0 ∷ getD v 6 0 ∷ [])
+    (summed (c .before .add6 .ensures) x y)
+    (summed (c .add7 .ensures) refl x)
 
 pub one-turn-spec : {M : Type 1} → statement M
 one-turn-spec =

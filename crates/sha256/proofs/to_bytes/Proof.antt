@@ -1,51 +1,57 @@
+-- `sha256::to_bytes` meets its contract. The loop's invariant: the first i bytes are the digest's, each by its word and its place in
+-- the word. Assumes nothing.
+use mathlib.Core.Path.{_≡_, refl}
+use mathlib.Core.List.{List}
+use Prim.Native.Nat.{ℕ, _-_, _/_, _%_, _≤_}
+use native.Mathlib.Omega.{arith}
+use lib.ListN.{length, getD}
+use Rattle.octets.specs.Filled.{Filled, filled-none, filled-more, filled-all}
+use Rattle.sha256.specs.Words.{wordBytes}
+use Rattle.sha256.specs.Hash.{digestBytes}
 use borrow.Author.Needs.{needs}
 use Rattle.sha256.proofs.to_bytes.Statement.{statement}
 use Rattle.sha256.proofs.to_bytes.Tie as tie
-use Rattle.sha256.proofs.to_bytes.Reads as reads
-use Rattle.sha256.proofs.to_bytes.Lts as lts
-use Rattle.sha256.proofs.word_byte.Reads as word-byte-reads
+
+abbrev byteOf : List ℕ → ℕ → ℕ
+byteOf h j = getD (wordBytes (getD h (j / 4) 0)) (j % 4) 0
 
 abbrev Inv-loop : tie.InvT-loop
-Inv-loop h d₀ i₀ d i = ?
+Inv-loop h d₀ i₀ d i = (length d₀ ≡ 32) × (i ≤ 32) × Filled (byteOf h) d₀ d i
 
 abbrev μ-loop : tie.MeasureT-loop
-μ-loop h d₀ i₀ d i = ?
+μ-loop h d₀ i₀ d i = 32 - i
 
--- src/lib.rt:313:5
 loop-holds : tie.Need-loop-holds Inv-loop μ-loop
-loop-holds c = search needs
+loop-holds c = (refl, search needs, filled-none _ _)
 
--- src/lib.rt:314:26
 mul-word-byte : tie.Need-mul-word-byte Inv-loop μ-loop
 mul-word-byte c = search needs
 
--- src/lib.rt:314:26
 array-read-word-byte : tie.Need-array-read-word-byte Inv-loop μ-loop
 array-read-word-byte c = search needs
 
--- src/lib.rt:314:16
 word-byte-requires : tie.Need-word-byte-requires Inv-loop μ-loop
 word-byte-requires c κs = search needs
 
--- src/lib.rt:314:9
 array-write-d : tie.Need-array-write-d Inv-loop μ-loop
 array-write-d c = search needs
 
--- src/lib.rt:315:9
 add-i : tie.Need-add-i Inv-loop μ-loop
 add-i c = search needs
 
--- src/lib.rt:313:5
 loop-less : tie.Need-loop-less Inv-loop μ-loop
 loop-less c = search needs
 
--- src/lib.rt:313:5
 loop-again : tie.Need-loop-again Inv-loop μ-loop
-loop-again c = search needs
+loop-again c =
+    let l = c .before .before .loop in
+    (l .inv .0, omega arith, filled-more (l .inv .2) (omega arith) (c .word-byte .ensures))
 
--- src/lib.rt:308:1
 returns : tie.Need-returns Inv-loop μ-loop
-returns c = search needs
+unfolding digestBytes
+returns c =
+    let l = c .before .loop in
+    filled-all 32 (l .inv .2) (l .inv .0) (omega arith)
 
 pub to-bytes-spec : {M : Type 1} → statement M
 to-bytes-spec =
