@@ -46,12 +46,12 @@ loop-again : tie.Need-loop-again Inv-loop μ-loop
 unfolding turns
 loop-again c =
     let l = c .before .before .loop in
-    let a = c .before .before .before .args in
-    ( l .inv .0
-    , omega arith
-    , c .one-turn .ensures
-      ∙ ap₂ (λ (v k : List ℕ). turn v (getD k (l .i) 0) (getD (a .t1) (l .i) 0)) (l .inv .2) (l .inv .0)
-      ∙ ap (turns (a .t1) (a .h)) (sym (add-one (l .i)))
+    let a = c .before .before .before .args in (
+      l .inv .0,
+      omega arith,
+      c .one-turn .ensures
+          ∙ ap₂ (λ (v k : List ℕ). turn v (getD k (l .i) 0) (getD (a .t1) (l .i) 0)) (l .inv .2) (l .inv .0)
+          ∙ ap (turns (a .t1) (a .h)) (sym (add-one (l .i))),
     )
 
 returns : tie.Need-returns Inv-loop μ-loop

@@ -1,119 +1,113 @@
+-- `sha256::compress` meets its contract: the schedule goes into the turns, and what they give is added word by word. Assumes nothing.
+use mathlib.Core.Path.{_≡_, refl, ap, ap₂, _∙_}
+use mathlib.Core.List.{List, [], _∷_}
+use Prim.Native.Nat.{ℕ}
+use lib.ListN.{getD}
+use Rattle.octets.specs.Lists.{table}
+use Rattle.sha256.specs.Words.{plus}
+use Rattle.sha256.specs.Hash.{turns, compressed}
 use borrow.Author.Needs.{needs}
 use Rattle.sha256.proofs.compress.Statement.{statement}
 use Rattle.sha256.proofs.compress.Tie as tie
-use Rattle.sha256.proofs.compress.Reads as reads
-use Rattle.sha256.proofs.compress.Lts as lts
-use Rattle.sha256.proofs.add.Reads as add-reads
-use Rattle.sha256.proofs.all_turns.Reads as all-turns-reads
-use Rattle.sha256.proofs.full_schedule.Reads as full-schedule-reads
 
--- src/lib.rt:200:23
+abbrev sum8 : List ℕ → List ℕ → List ℕ
+sum8 h v = table (λ j. plus (getD v j 0) (getD h j 0)) 8 0
+
+cons : {a b : ℕ} {s t : List ℕ} → a ≡ b → s ≡ t → _≡_ {A = List ℕ} (a ∷ s) (b ∷ t)
+cons p q = ap₂ (λ (x : ℕ) (l : List ℕ). x ∷ l) p q
+
+module _ (v h : List ℕ) where
+  abbrev at : ℕ → ℕ
+  at j = plus (getD v j 0) (getD h j 0)
+
+  sums : {a b c d e f g k : ℕ} → a ≡ at 0 → b ≡ at 1 → c ≡ at 2 → d ≡ at 3 → e ≡ at 4 → f ≡ at 5 → g ≡ at 6 → k ≡ at 7 →
+      _≡_ {A = List ℕ} (a ∷ b ∷ c ∷ d ∷ e ∷ f ∷ g ∷ k ∷ []) (sum8 h v)
+  sums p0 p1 p2 p3 p4 p5 p6 p7 = cons p0 (cons p1 (cons p2 (cons p3 (cons p4 (cons p5 (cons p6 (cons p7 refl)))))))
+
 full-schedule-requires : tie.Need-full-schedule-requires
 full-schedule-requires c κs = search needs
 
--- src/lib.rt:200:13
 all-turns-requires : tie.Need-all-turns-requires
 all-turns-requires c κs = search needs
 
--- src/lib.rt:202:13
 array-read-add : tie.Need-array-read-add
 array-read-add c = search needs
 
--- src/lib.rt:202:19
 array-read-add-2 : tie.Need-array-read-add-2
 array-read-add-2 c = search needs
 
--- src/lib.rt:202:9
 add-requires : tie.Need-add-requires
 add-requires c κs = search needs
 
--- src/lib.rt:203:13
 array-read-add-3 : tie.Need-array-read-add-3
 array-read-add-3 c = search needs
 
--- src/lib.rt:203:19
 array-read-add-4 : tie.Need-array-read-add-4
 array-read-add-4 c = search needs
 
--- src/lib.rt:203:9
 add-requires-2 : tie.Need-add-requires-2
 add-requires-2 c κs = search needs
 
--- src/lib.rt:204:13
 array-read-add-5 : tie.Need-array-read-add-5
 array-read-add-5 c = search needs
 
--- src/lib.rt:204:19
 array-read-add-6 : tie.Need-array-read-add-6
 array-read-add-6 c = search needs
 
--- src/lib.rt:204:9
 add-requires-3 : tie.Need-add-requires-3
 add-requires-3 c κs = search needs
 
--- src/lib.rt:205:13
 array-read-add-7 : tie.Need-array-read-add-7
 array-read-add-7 c = search needs
 
--- src/lib.rt:205:19
 array-read-add-8 : tie.Need-array-read-add-8
 array-read-add-8 c = search needs
 
--- src/lib.rt:205:9
 add-requires-4 : tie.Need-add-requires-4
 add-requires-4 c κs = search needs
 
--- src/lib.rt:206:13
 array-read-add-9 : tie.Need-array-read-add-9
 array-read-add-9 c = search needs
 
--- src/lib.rt:206:19
 array-read-add-10 : tie.Need-array-read-add-10
 array-read-add-10 c = search needs
 
--- src/lib.rt:206:9
 add-requires-5 : tie.Need-add-requires-5
 add-requires-5 c κs = search needs
 
--- src/lib.rt:207:13
 array-read-add-11 : tie.Need-array-read-add-11
 array-read-add-11 c = search needs
 
--- src/lib.rt:207:19
 array-read-add-12 : tie.Need-array-read-add-12
 array-read-add-12 c = search needs
 
--- src/lib.rt:207:9
 add-requires-6 : tie.Need-add-requires-6
 add-requires-6 c κs = search needs
 
--- src/lib.rt:208:13
 array-read-add-13 : tie.Need-array-read-add-13
 array-read-add-13 c = search needs
 
--- src/lib.rt:208:19
 array-read-add-14 : tie.Need-array-read-add-14
 array-read-add-14 c = search needs
 
--- src/lib.rt:208:9
 add-requires-7 : tie.Need-add-requires-7
 add-requires-7 c κs = search needs
 
--- src/lib.rt:209:13
 array-read-add-15 : tie.Need-array-read-add-15
 array-read-add-15 c = search needs
 
--- src/lib.rt:209:19
 array-read-add-16 : tie.Need-array-read-add-16
 array-read-add-16 c = search needs
 
--- src/lib.rt:209:9
 add-requires-8 : tie.Need-add-requires-8
 add-requires-8 c κs = search needs
 
--- src/lib.rt:197:1
 returns : tie.Need-returns
-returns c = search needs
+unfolding compressed
+returns c =
+    let h = c .before .before .before .before .before .before .before .before .before .before .args .t1 in
+    sums (c .before .before .before .before .before .before .before .before .all-turns .result) h (c .before .before .before .before .before .before .before .add .ensures) (c .before .before .before .before .before .before .add2 .ensures) (c .before .before .before .before .before .add3 .ensures) (c .before .before .before .before .add4 .ensures) (c .before .before .before .add5 .ensures) (c .before .before .add6 .ensures) (c .before .add7 .ensures) (c .add8 .ensures)
+    ∙ ap (sum8 h) (c .before .before .before .before .before .before .before .before .all-turns .ensures ∙ ap (λ (w : List ℕ). turns w h 64) (c .before .before .before .before .before .before .before .before .before .full-schedule .ensures))
 
 pub compress-spec : {M : Type 1} → statement M
 compress-spec =

@@ -71,10 +71,10 @@ loop-less c = search needs
 
 loop-again : tie.Need-loop-again Inv-loop μ-loop
 loop-again c =
-    let l = c .before .before .before .loop in
-    ( simp length-set (l .inv .0)
-    , omega arith
-    , grown _ (l .w) (l .n) _ (l .inv .0) (c .before .before .loop-test .taken) (l .inv .2) (c .next-word .ensures)
+    let l = c .before .before .before .loop in (
+      simp length-set (l .inv .0),
+      omega arith,
+      grown _ (l .w) (l .n) _ (l .inv .0) (c .before .before .loop-test .taken) (l .inv .2) (c .next-word .ensures),
     )
 
 returns : tie.Need-returns Inv-loop μ-loop

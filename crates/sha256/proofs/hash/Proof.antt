@@ -1,54 +1,63 @@
+-- `sha256::hash` meets its contract. The loop's invariant: h is the hash value after i blocks. Assumes nothing.
+use mathlib.Core.Path.{_≡_, refl, sym, ap, ap₂, _∙_}
+use mathlib.Core.List.{List}
+use Prim.Native.Nat.{ℕ, _-_, _≤_}
+use native.Mathlib.Omega.{arith}
+use native.Mathlib.Numerals.{add-one}
+use Rattle.sha256.specs.declared.Hashed.{Hashed}
+use Rattle.sha256.specs.Parsing.{blocks}
+use Rattle.sha256.specs.Hash.{compressed, stateAfter}
 use borrow.Author.Needs.{needs}
 use Rattle.sha256.proofs.hash.Statement.{statement}
 use Rattle.sha256.proofs.hash.Tie as tie
-use Rattle.sha256.proofs.hash.Reads as reads
-use Rattle.sha256.proofs.hash.Lts as lts
-use Rattle.sha256.proofs.block_count.Reads as block-count-reads
-use Rattle.sha256.proofs.compress.Reads as compress-reads
-use Rattle.sha256.proofs.initial.Reads as initial-reads
-use Rattle.sha256.proofs.padded_block.Reads as padded-block-reads
+
+abbrev hashed : List ℕ → ℕ → Hashed
+hashed s n = record { state = s; blocks = n }
 
 abbrev Inv-loop : tie.InvT-loop
-Inv-loop m n h₀ i₀ h i = ?
+Inv-loop m n h₀ i₀ h i = (n ≡ blocks m) × (i ≤ n) × (h ≡ stateAfter m i)
 
 abbrev μ-loop : tie.MeasureT-loop
-μ-loop m n h₀ i₀ h i = ?
+μ-loop m n h₀ i₀ h i = n - i
 
--- src/lib.rt:324:9
 block-count-requires : tie.Need-block-count-requires Inv-loop μ-loop
 block-count-requires c κs = search needs
 
--- src/lib.rt:325:9
 initial-requires : tie.Need-initial-requires Inv-loop μ-loop
 initial-requires c κs = search needs
 
--- src/lib.rt:327:5
 loop-holds : tie.Need-loop-holds Inv-loop μ-loop
-loop-holds c = search needs
+unfolding stateAfter
+loop-holds c = (c .before .block-count .ensures, search needs, c .initial .ensures)
 
--- src/lib.rt:328:17
 padded-block-requires : tie.Need-padded-block-requires Inv-loop μ-loop
 padded-block-requires c κs = search needs
 
--- src/lib.rt:329:13
 compress-requires : tie.Need-compress-requires Inv-loop μ-loop
 compress-requires c κs = search needs
 
--- src/lib.rt:331:9
 add-i : tie.Need-add-i Inv-loop μ-loop
 add-i c = search needs
 
--- src/lib.rt:327:5
 loop-less : tie.Need-loop-less Inv-loop μ-loop
 loop-less c = search needs
 
--- src/lib.rt:327:5
 loop-again : tie.Need-loop-again Inv-loop μ-loop
-loop-again c = search needs
+unfolding stateAfter
+loop-again c =
+    let l = c .before .before .before .before .loop in
+    let m = c .before .before .before .before .before .before .before .before .args .m .now in (
+      l .inv .0,
+      omega arith,
+      c .compress .ensures ∙ ap₂ compressed (l .inv .2) (c .before .before .padded-block .ensures) ∙ ap (stateAfter m) (sym (add-one (l .i))),
+    )
 
--- src/lib.rt:321:1
 returns : tie.Need-returns Inv-loop μ-loop
-returns c = search needs
+returns c =
+    let l = c .before .loop in
+    let m = c .before .before .before .before .before .args .m .now in
+    let e : l .i ≡ blocks m = omega arith in
+    ap₂ hashed (l .inv .2 ∙ ap (stateAfter m) e) (l .inv .0)
 
 pub hash-spec : {M : Type 1} → statement M
 hash-spec =

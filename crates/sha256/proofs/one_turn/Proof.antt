@@ -72,15 +72,15 @@ returns c =
     let p = c .before .before .before .before .before .before .before .before .before .before .before .args in
     let v = p .t1 in
     let x : c .before .before .before .before .before .add4 .result ≡ t1 (getD v 4 0) (getD v 5 0) (getD v 6 0) (getD v 7 0) (p .k) (p .w) =
-        summed (c .before .before .before .before .before .add4 .ensures)
-        (summed (c .before .before .before .before .before .before .add3 .ensures)
-        (summed (c .before .before .before .before .before .before .before .add2 .ensures)
-        (summed (c .before .before .before .before .before .before .before .before .before .add .ensures) refl (c .before .before .before .before .before .before .before .before .before .before .upper-sigma1 .ensures))
-        (c .before .before .before .before .before .before .before .before .choose .ensures))
-        refl)
-        refl in
+    summed (c .before .before .before .before .before .add4 .ensures)
+    (summed (c .before .before .before .before .before .before .add3 .ensures)
+    (summed (c .before .before .before .before .before .before .before .add2 .ensures)
+    (summed (c .before .before .before .before .before .before .before .before .before .add .ensures) refl (c .before .before .before .before .before .before .before .before .before .before .upper-sigma1 .ensures))
+    (c .before .before .before .before .before .before .before .before .choose .ensures))
+    refl)
+    refl in
     let y : c .before .before .add5 .result ≡ t2 (getD v 0 0) (getD v 1 0) (getD v 2 0) =
-        summed (c .before .before .add5 .ensures) (c .before .before .before .before .upper-sigma0 .ensures) (c .before .before .before .majority .ensures) in
+    summed (c .before .before .add5 .ensures) (c .before .before .before .before .upper-sigma0 .ensures) (c .before .before .before .majority .ensures) in
     ap₂ (λ (a e : ℕ). a ∷ getD v 0 0 ∷ getD v 1 0 ∷ getD v 2 0 ∷ e ∷ getD v 4 0 ∷ getD v 5 0 ∷ getD v 6 0 ∷ [])
     (summed (c .before .add6 .ensures) x y)
     (summed (c .add7 .ensures) refl x)
