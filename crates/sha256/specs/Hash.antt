@@ -45,9 +45,13 @@ unfoldable pub turns : List ℕ → List ℕ → ℕ → List ℕ
 turns w h zero = h
 turns w h (suc t) = turn (turns w h t) (getD constants t 0) (getD w t 0)
 
--- Step 4: "Compute the ith intermediate hash value H(i): H0(i) = a + H0(i-1), .., H7(i) = h + H7(i-1)", for the block b as bytes
+-- Step 4: "Compute the ith intermediate hash value H(i): H0(i) = a + H0(i-1), .., H7(i) = h + H7(i-1)", of the variables v
+abbrev pub sums : List ℕ → List ℕ → List ℕ
+sums h v = table (λ j. plus (getD v j 0) (getD h j 0)) 8 0
+
+-- Steps 1 to 4: H(i) from H(i-1) and the block b, given as bytes
 unfoldable pub compressed : List ℕ → List ℕ → List ℕ
-compressed h b = table (λ j. plus (getD (turns (schedule (blockWords b) 48) h 64) j 0) (getD h j 0)) 8 0
+compressed h b = sums h (turns (schedule (blockWords b) 48) h 64)
 
 -- "For i = 1 to N": the hash value after i blocks of the message m, from H(0)
 unfoldable pub stateAfter : List ℕ → ℕ → List ℕ

@@ -8,7 +8,7 @@ ghost use Rattle.sha256.specs.Parsing.{blocks, blockAt, blockWords};
 ghost use Rattle.sha256.specs.Initial.{initialHash};
 ghost use Rattle.sha256.specs.Hash.{nextWord, schedule, turn, turns, compressed, stateAfter, digestBytes, sha256};
 
-// FIPS 180-4, 4.2.2.
+// The constants of FIPS 180-4, section 4.2.2.
 const K: [u32; 64] = [
     0x428a2f98,
     0x71374491,
@@ -76,12 +76,14 @@ const K: [u32; 64] = [
     0xc67178f2,
 ];
 
+// Addition modulo 2^32.
 fn add(a: u32, b: u32) -> u32
     ensures { λ r. ⌜ r ≡ plus a b ⌝ }
 {
     std::num::wrapping_add_u32(a, b)
 }
 
+// The six functions of section 4.1.2.
 fn upper_sigma0(x: u32) -> u32
     ensures { λ r. ⌜ r ≡ upperSigma0 x ⌝ }
 {
@@ -133,6 +135,7 @@ fn one_turn(v: [u32; 8], k: u32, w: u32) -> [u32; 8]
     [add(t1, t2), a, b, c, add(v[3], t1), e, f, g]
 }
 
+// The big-endian word of four bytes.
 fn word_of(a: u8, b: u8, c: u8, d: u8) -> u32
     ensures { λ r. ⌜ r ≡ word a b c d ⌝ }
 {
@@ -167,6 +170,7 @@ fn next_word(w: &[u32; 64], n: usize) -> u32
     )
 }
 
+// The message schedule, all 64 words.
 fn full_schedule(b: &[u8; 64]) -> [u32; 64]
     ensures { λ r. ⌜ r ≡ schedule (blockWords (now (b .entry))) 48 ⌝ }
 {
@@ -179,6 +183,7 @@ fn full_schedule(b: &[u8; 64]) -> [u32; 64]
     w
 }
 
+// The 64 turns. The constants are copied once, not once a turn.
 fn all_turns(w: [u32; 64], h: [u32; 8]) -> [u32; 8]
     ensures { λ r. ⌜ r ≡ turns w h 64 ⌝ }
 {
@@ -210,6 +215,7 @@ pub fn compress(h: [u32; 8], block: &[u8; 64]) -> [u32; 8]
     ]
 }
 
+// The initial hash value.
 pub fn initial() -> [u32; 8]
     ensures { λ r. ⌜ r ≡ initialHash ⌝ }
 {
@@ -233,7 +239,7 @@ pub fn block_count(m: &[u8]) -> usize
     n / 64 + 1 + (n % 64 + 8) / 64
 }
 
-// Byte k of the eight that hold the length in bits of n bytes.
+// Byte k of the eight that hold the length in bits of n bytes, modulo 2^64.
 fn length_byte(n: usize, k: usize) -> u8
     requires { ⌜ k < 8 ⌝ }
     ensures { λ r. ⌜ r ≡ 8 * n / 2 ^ (56 - 8 * k) % 256 ⌝ }
@@ -253,7 +259,7 @@ fn last_byte(n: usize, j: usize) -> u8
     length_byte(n, j - 56)
 }
 
-// Byte j of block i of the padded message. No sum here exceeds the length of a slice by more than its last block.
+// Byte j of block i of the padded message. The block past the message's end goes first: there 64 * i may not fit.
 fn padded_byte(m: &[u8], i: usize, j: usize) -> u8
     requires { ⌜ i < blocks (now m) ⌝ }
     requires { ⌜ j < 64 ⌝ }
@@ -300,6 +306,7 @@ fn word_byte(x: u32, k: usize) -> u8
     ((x >> (24 - 8 * k)) % 256) as u8
 }
 
+// The digest: the words of a hash value as bytes.
 pub fn to_bytes(h: [u32; 8]) -> [u8; 32]
     ensures { λ r. ⌜ r ≡ digestBytes h ⌝ }
 {
@@ -318,6 +325,7 @@ pub struct Hashed {
     pub blocks: usize,
 }
 
+// The hash value after all blocks of the message.
 pub fn hash(m: &[u8]) -> Hashed
     ensures { λ r. ⌜ r ≡ record { state = stateAfter (now (m .entry)) (blocks (now (m .entry))); blocks = blocks (now (m .entry)) } ⌝ }
 {
@@ -336,6 +344,7 @@ pub fn hash(m: &[u8]) -> Hashed
     }
 }
 
+// SHA-256 of the message.
 pub fn digest(m: &[u8]) -> [u8; 32]
     ensures { λ r. ⌜ r ≡ sha256 (now (m .entry)) ⌝ }
 {

@@ -3,15 +3,11 @@ use mathlib.Core.Path.{_≡_, refl, ap, ap₂, _∙_}
 use mathlib.Core.List.{List, [], _∷_}
 use Prim.Native.Nat.{ℕ}
 use lib.ListN.{getD}
-use Rattle.octets.specs.Lists.{table}
 use Rattle.sha256.specs.Words.{plus}
-use Rattle.sha256.specs.Hash.{turns, compressed}
+use Rattle.sha256.specs.Hash.{turns, sums, compressed}
 use borrow.Author.Needs.{needs}
 use Rattle.sha256.proofs.compress.Statement.{statement}
 use Rattle.sha256.proofs.compress.Tie as tie
-
-abbrev sum8 : List ℕ → List ℕ → List ℕ
-sum8 h v = table (λ j. plus (getD v j 0) (getD h j 0)) 8 0
 
 cons : {a b : ℕ} {s t : List ℕ} → a ≡ b → s ≡ t → _≡_ {A = List ℕ} (a ∷ s) (b ∷ t)
 cons p q = ap₂ (λ (x : ℕ) (l : List ℕ). x ∷ l) p q
@@ -20,9 +16,9 @@ module _ (v h : List ℕ) where
   abbrev at : ℕ → ℕ
   at j = plus (getD v j 0) (getD h j 0)
 
-  sums : {a b c d e f g k : ℕ} → a ≡ at 0 → b ≡ at 1 → c ≡ at 2 → d ≡ at 3 → e ≡ at 4 → f ≡ at 5 → g ≡ at 6 → k ≡ at 7 →
-      _≡_ {A = List ℕ} (a ∷ b ∷ c ∷ d ∷ e ∷ f ∷ g ∷ k ∷ []) (sum8 h v)
-  sums p0 p1 p2 p3 p4 p5 p6 p7 = cons p0 (cons p1 (cons p2 (cons p3 (cons p4 (cons p5 (cons p6 (cons p7 refl)))))))
+  added : {a b c d e f g k : ℕ} → a ≡ at 0 → b ≡ at 1 → c ≡ at 2 → d ≡ at 3 → e ≡ at 4 → f ≡ at 5 → g ≡ at 6 → k ≡ at 7 →
+      _≡_ {A = List ℕ} (a ∷ b ∷ c ∷ d ∷ e ∷ f ∷ g ∷ k ∷ []) (sums h v)
+  added p0 p1 p2 p3 p4 p5 p6 p7 = cons p0 (cons p1 (cons p2 (cons p3 (cons p4 (cons p5 (cons p6 (cons p7 refl)))))))
 
 full-schedule-requires : tie.Need-full-schedule-requires
 full-schedule-requires c κs = search needs
@@ -106,8 +102,8 @@ returns : tie.Need-returns
 unfolding compressed
 returns c =
     let h = c .before .before .before .before .before .before .before .before .before .before .args .t1 in
-    sums (c .before .before .before .before .before .before .before .before .all-turns .result) h (c .before .before .before .before .before .before .before .add .ensures) (c .before .before .before .before .before .before .add2 .ensures) (c .before .before .before .before .before .add3 .ensures) (c .before .before .before .before .add4 .ensures) (c .before .before .before .add5 .ensures) (c .before .before .add6 .ensures) (c .before .add7 .ensures) (c .add8 .ensures)
-    ∙ ap (sum8 h) (c .before .before .before .before .before .before .before .before .all-turns .ensures ∙ ap (λ (w : List ℕ). turns w h 64) (c .before .before .before .before .before .before .before .before .before .full-schedule .ensures))
+    added (c .before .before .before .before .before .before .before .before .all-turns .result) h (c .before .before .before .before .before .before .before .add .ensures) (c .before .before .before .before .before .before .add2 .ensures) (c .before .before .before .before .before .add3 .ensures) (c .before .before .before .before .add4 .ensures) (c .before .before .before .add5 .ensures) (c .before .before .add6 .ensures) (c .before .add7 .ensures) (c .add8 .ensures)
+    ∙ ap (sums h) (c .before .before .before .before .before .before .before .before .all-turns .ensures ∙ ap (λ (w : List ℕ). turns w h 64) (c .before .before .before .before .before .before .before .before .before .full-schedule .ensures))
 
 pub compress-spec : {M : Type 1} → statement M
 compress-spec =
