@@ -58,12 +58,12 @@ unfoldable pub stateAfter : List ℕ → ℕ → List ℕ
 stateAfter m zero = initialHash
 stateAfter m (suc i) = compressed (stateAfter m i) (blockAt m i)
 
--- "The resulting 256-bit message digest of the message, M, is H0(N) || H1(N) || .. || H7(N)"
+-- "the resulting 256-bit message digest of the message, M, is H0(N) || H1(N) || .. || H7(N)": the bytes of the hash value h
 unfoldable pub digestBytes : List ℕ → List ℕ
 digestBytes h =
     wordBytes (getD h 0 0) ++ wordBytes (getD h 1 0) ++ wordBytes (getD h 2 0) ++ wordBytes (getD h 3 0) ++
     wordBytes (getD h 4 0) ++ wordBytes (getD h 5 0) ++ wordBytes (getD h 6 0) ++ wordBytes (getD h 7 0)
 
--- "After repeating steps one through four a total of N times"
+-- "After repeating steps one through four a total of N times (i.e., after processing M(N))"
 unfoldable pub sha256 : List ℕ → List ℕ
 sha256 m = digestBytes (stateAfter m (blocks m))

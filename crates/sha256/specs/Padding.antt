@@ -1,5 +1,5 @@
 -- FIPS 180-4, section 5.1.1: padding the message. A message here is whole bytes.
-use mathlib.Core.List.{List, [], _∷_, _++_}
+use mathlib.Core.List.{List, _∷_, _++_}
 use Prim.Native.Nat.{ℕ, _+_, _-_, _*_, _/_, _%_, _^_}
 use lib.ListN.{length, replicate}
 use Rattle.octets.specs.Lists.{table}

@@ -1,7 +1,6 @@
 -- The worked example of FIPS 180-4's companion "SHA256.pdf": the one-block message "abc". Assumes nothing.
 use mathlib.Core.Path.{_≡_, refl}
-use mathlib.Core.List.{List, [], _∷_}
-use Prim.Native.Nat.{ℕ}
+use mathlib.Core.List.{[], _∷_}
 use Rattle.sha256.specs.Functions.{ch, maj, upperSigma0, upperSigma1, sigma0, sigma1}
 use Rattle.sha256.specs.Constants.{constants}
 use Rattle.sha256.specs.Padding.{pad}

@@ -4,7 +4,7 @@ use mathlib.Core.List.{List}
 use Prim.Native.Nat.{ℕ, _-_, _≤_}
 use native.Mathlib.Omega.{arith}
 use native.Mathlib.Numerals.{add-one}
-use lib.ListN.{length, getD}
+use lib.ListN.{getD}
 use Rattle.sha256.specs.Constants.{constants}
 use Rattle.sha256.specs.Hash.{turn, turns}
 use borrow.Author.Needs.{needs}

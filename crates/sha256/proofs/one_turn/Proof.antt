@@ -1,6 +1,6 @@
 -- `sha256::one_turn` meets its contract: each call's result goes into the next sum. Assumes nothing.
 use mathlib.Core.Path.{_≡_, refl, ap₂}
-use mathlib.Core.List.{List, [], _∷_}
+use mathlib.Core.List.{[], _∷_}
 use Prim.Native.Nat.{ℕ}
 use lib.ListN.{getD}
 use Rattle.sha256.specs.Hash.{t1, t2, turn}
