@@ -23,11 +23,11 @@ filled-more {f} {t₀} {t} {i} {v} q h e =
     record {
       long = length-set t i v ∙ q .long;
       done =
-        λ k l.
-        ⊎-elim (λ (p : k ≡ i). rw p (getD-set-same t i v 0 (omega (arith, q .long)) ∙ e))
-        (λ (p : k < i). getD-set-other t i k v 0 (λ z. omega arith) ∙ q .done k p)
-        (eq-or-lt-of-le (omega arith));
-      rest = λ k l. getD-set-other t i k v 0 (λ z. omega arith) ∙ q .rest k (omega arith)
+          λ k l.
+          ⊎-elim (λ (p : k ≡ i). rw p (getD-set-same t i v 0 (omega (arith, q .long)) ∙ e))
+          (λ (p : k < i). getD-set-other t i k v 0 (λ z. omega arith) ∙ q .done k p)
+          (eq-or-lt-of-le (omega arith));
+      rest = λ k l. getD-set-other t i k v 0 (λ z. omega arith) ∙ q .rest k (omega arith);
     }
 
 -- a list that is filled to its end

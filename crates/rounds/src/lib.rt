@@ -21,13 +21,47 @@ fn substitute(table: &[u8; 256], s: [u8; 16]) -> [u8; 16]
 fn shift_rows(s: [u8; 16]) -> [u8; 16]
     ensures { λ r. ⌜ r ≡ shiftRows s ⌝ }
 {
-    [s[0], s[5], s[10], s[15], s[4], s[9], s[14], s[3], s[8], s[13], s[2], s[7], s[12], s[1], s[6], s[11]]
+    [
+        s[0],
+        s[5],
+        s[10],
+        s[15],
+        s[4],
+        s[9],
+        s[14],
+        s[3],
+        s[8],
+        s[13],
+        s[2],
+        s[7],
+        s[12],
+        s[1],
+        s[6],
+        s[11],
+    ]
 }
 
 fn inv_shift_rows(s: [u8; 16]) -> [u8; 16]
     ensures { λ r. ⌜ r ≡ invShiftRows s ⌝ }
 {
-    [s[0], s[13], s[10], s[7], s[4], s[1], s[14], s[11], s[8], s[5], s[2], s[15], s[12], s[9], s[6], s[3]]
+    [
+        s[0],
+        s[13],
+        s[10],
+        s[7],
+        s[4],
+        s[1],
+        s[14],
+        s[11],
+        s[8],
+        s[5],
+        s[2],
+        s[15],
+        s[12],
+        s[9],
+        s[6],
+        s[3],
+    ]
 }
 
 // Written out, with each byte read once: a loop over the columns costs four times the instructions.

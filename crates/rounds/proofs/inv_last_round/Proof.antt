@@ -28,10 +28,10 @@ returns c =
     let s = c .before .before .inv-shift-rows .result in
     let b : (i : ℕ) → i < 16 → getD s i 0 < 256 = λ i h. let f : Fits w8 (getD s i 0) = search needs in f .fits in
     let sub : c .before .substitute .result ≡ invSubBytes (invShiftRows (a .s)) =
-        c .before .substitute .ensures
-        ∙ ap (λ (t : List ℕ). substituted t s) (c .before .before .before .pre)
-        ∙ inv-by-table s b
-        ∙ ap invSubBytes (c .before .before .inv-shift-rows .ensures) in
+    c .before .substitute .ensures
+    ∙ ap (λ (t : List ℕ). substituted t s) (c .before .before .before .pre)
+    ∙ inv-by-table s b
+    ∙ ap invSubBytes (c .before .before .inv-shift-rows .ensures) in
     c .xor-block .ensures ∙ ap (λ (x : List ℕ). addRoundKey x (a .key)) sub
 
 pub inv-last-round-spec : {M : Type 1} → statement M

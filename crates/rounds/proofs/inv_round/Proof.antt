@@ -31,10 +31,10 @@ returns c =
     let s = c .before .before .before .inv-shift-rows .result in
     let b : (i : ℕ) → i < 16 → getD s i 0 < 256 = λ i h. let f : Fits w8 (getD s i 0) = search needs in f .fits in
     let sub : c .before .before .substitute .result ≡ invSubBytes (invShiftRows (a .s)) =
-        c .before .before .substitute .ensures
-        ∙ ap (λ (t : List ℕ). substituted t s) (c .before .before .before .before .pre)
-        ∙ inv-by-table s b
-        ∙ ap invSubBytes (c .before .before .before .inv-shift-rows .ensures) in
+    c .before .before .substitute .ensures
+    ∙ ap (λ (t : List ℕ). substituted t s) (c .before .before .before .before .pre)
+    ∙ inv-by-table s b
+    ∙ ap invSubBytes (c .before .before .before .inv-shift-rows .ensures) in
     c .inv-mix-columns .ensures ∙ ap invMixColumns (c .before .xor-block .ensures ∙ ap (λ (x : List ℕ). addRoundKey x (a .key)) sub)
 
 pub inv-round-spec : {M : Type 1} → statement M

@@ -26,7 +26,7 @@ returns c =
     let a = c .before .before .before .args in
     let b : (i : ℕ) → i < 16 → getD (a .s) i 0 < 256 = λ i h. let f : Fits w8 (getD (a .s) i 0) = search needs in f .fits in
     let sub : c .before .before .substitute .result ≡ subBytes (a .s) =
-        c .before .before .substitute .ensures ∙ ap (λ (t : List ℕ). substituted t (a .s)) (c .before .before .before .pre) ∙ sub-by-table (a .s) b in
+    c .before .before .substitute .ensures ∙ ap (λ (t : List ℕ). substituted t (a .s)) (c .before .before .before .pre) ∙ sub-by-table (a .s) b in
     c .xor-block .ensures ∙ ap (λ (x : List ℕ). addRoundKey x (a .key)) (c .before .shift-rows .ensures ∙ ap shiftRows sub)
 
 pub last-round-spec : {M : Type 1} → statement M

@@ -1,0 +1,91 @@
+-- `aes::decipher` meets its contract: what is left to do of the state is what was left at the start. Assumes nothing.
+use Prim.Native.Nat.{ℕ, suc, _-_, _≤_, _+_}
+use mathlib.Core.Path.{_≡_, refl, ap, _∙_, sym}
+use mathlib.Core.List.{List, []}
+use lib.ListN.{getD}
+use native.Mathlib.Omega.{arith}
+use Rattle.rounds.specs.InvCipher.{invRounds, invRound, invLastRound, invCipher}
+use borrow.Author.Needs.{needs}
+use Rattle.aes.proofs.decipher.Statement.{statement}
+use Rattle.aes.proofs.decipher.Tie as tie
+
+abbrev Inv-loop : tie.InvT-loop
+Inv-loop w table t₀ i₀ t i = (i ≤ 9) × (invRounds w i t ≡ invRounds w 9 t₀)
+
+abbrev μ-loop : tie.MeasureT-loop
+μ-loop w table t₀ i₀ t i = i
+
+inv-byte-table-requires : tie.Need-inv-byte-table-requires Inv-loop μ-loop
+inv-byte-table-requires c κs = search needs
+
+element-copy-out-xor-block : tie.Need-element-copy-out-xor-block Inv-loop μ-loop
+element-copy-out-xor-block c = search needs
+
+xor-block-requires : tie.Need-xor-block-requires Inv-loop μ-loop
+xor-block-requires c κs = search needs
+
+loop-holds : tie.Need-loop-holds Inv-loop μ-loop
+loop-holds c = (search needs, refl)
+
+mul-inv-round : tie.Need-mul-inv-round Inv-loop μ-loop
+mul-inv-round c = search needs
+
+element-copy-out-inv-round : tie.Need-element-copy-out-inv-round Inv-loop μ-loop
+element-copy-out-inv-round c = search needs
+
+inv-round-requires : tie.Need-inv-round-requires Inv-loop μ-loop
+inv-round-requires c κs = c .before .before .before .before .before .before .inv-byte-table .ensures
+
+sub-i : tie.Need-sub-i Inv-loop μ-loop
+sub-i c = search needs
+
+loop-less : tie.Need-loop-less Inv-loop μ-loop
+loop-less c = search needs
+
+loop-again : tie.Need-loop-again Inv-loop μ-loop
+unfolding invRounds
+loop-again c =
+    let l = c .before .before .before .before .loop in
+    let w = c .before .before .before .before .before .before .before .before .args .w .now in
+    let e : l .i ≡ suc (l .i - 1) = omega arith in (
+      omega arith,
+      ap (invRounds w (l .i - 1)) (c .inv-round .ensures ∙ ap (λ (n : ℕ). invRound (l .t) (getD w n [])) e)
+          ∙ ap (λ (n : ℕ). invRounds w n (l .t)) (sym e)
+          ∙ l .inv .1,
+    )
+
+element-copy-out-inv-last-round : tie.Need-element-copy-out-inv-last-round Inv-loop μ-loop
+element-copy-out-inv-last-round c = search needs
+
+inv-last-round-requires : tie.Need-inv-last-round-requires Inv-loop μ-loop
+inv-last-round-requires c κs = c .before .before .before .before .before .before .inv-byte-table .ensures
+
+returns : tie.Need-returns Inv-loop μ-loop
+unfolding invCipher invRounds
+returns c =
+    let w = c .before .before .before .before .before .before .before .before .args .w .now in
+    let l = c .before .before .before .before .loop in
+    let none : 0 ≡ l .i = omega arith in
+    c .inv-last-round .ensures
+    ∙ ap (λ (x : List ℕ). invLastRound x (getD w 0 []))
+    (ap (λ (n : ℕ). invRounds w n (l .t)) none ∙ l .inv .1 ∙ ap (invRounds w 9) (c .before .before .before .before .before .xor-block .ensures))
+
+pub decipher-spec : {M : Type 1} → statement M
+decipher-spec =
+    tie.close
+    (tie.spec
+    Inv-loop
+    μ-loop
+    inv-byte-table-requires
+    element-copy-out-xor-block
+    xor-block-requires
+    loop-holds
+    mul-inv-round
+    element-copy-out-inv-round
+    inv-round-requires
+    sub-i
+    loop-less
+    loop-again
+    element-copy-out-inv-last-round
+    inv-last-round-requires
+    returns)

@@ -1,0 +1,5 @@
+pub mod KeyExpansion
+pub mod Aes
+pub mod Words
+pub mod Rows
+pub mod RoundTrip

@@ -1,0 +1,12 @@
+-- `sha256::majority` meets its contract: the code is the definition, opened. Assumes nothing.
+use mathlib.Core.Path.{refl}
+use Rattle.sha256.specs.Functions.{maj}
+use Rattle.sha256.proofs.majority.Statement.{statement}
+use Rattle.sha256.proofs.majority.Tie as tie
+
+returns : tie.Need-returns
+unfolding maj
+returns c = refl
+
+pub majority-spec : {M : Type 1} → statement M
+majority-spec = tie.close (tie.spec returns)

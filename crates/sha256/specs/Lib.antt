@@ -1,0 +1,9 @@
+pub mod Words
+pub mod Functions
+pub mod Constants
+pub mod Padding
+pub mod PaddingLaws
+pub mod Parsing
+pub mod Initial
+pub mod Hash
+pub mod Vectors

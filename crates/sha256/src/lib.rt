@@ -1,0 +1,354 @@
+ghost use mathlib.Core.Path.{_≡_};
+ghost use Prim.Native.Nat.{_+_, _-_, _*_, _/_, _%_, _^_, _<_, _≤_};
+ghost use lib.ListN.{getD, take};
+ghost use Rattle.sha256.specs.Words.{plus, word, wordBytes};
+ghost use Rattle.sha256.specs.Functions.{ch, maj, upperSigma0, upperSigma1, sigma0, sigma1};
+ghost use Rattle.sha256.specs.Padding.{pad};
+ghost use Rattle.sha256.specs.Parsing.{blocks, blockAt, blockWords};
+ghost use Rattle.sha256.specs.Initial.{initialHash};
+ghost use Rattle.sha256.specs.Hash.{nextWord, schedule, turn, turns, compressed, stateAfter, digestBytes, sha256};
+
+// The constants of FIPS 180-4, section 4.2.2.
+const K: [u32; 64] = [
+    0x428a2f98,
+    0x71374491,
+    0xb5c0fbcf,
+    0xe9b5dba5,
+    0x3956c25b,
+    0x59f111f1,
+    0x923f82a4,
+    0xab1c5ed5,
+    0xd807aa98,
+    0x12835b01,
+    0x243185be,
+    0x550c7dc3,
+    0x72be5d74,
+    0x80deb1fe,
+    0x9bdc06a7,
+    0xc19bf174,
+    0xe49b69c1,
+    0xefbe4786,
+    0x0fc19dc6,
+    0x240ca1cc,
+    0x2de92c6f,
+    0x4a7484aa,
+    0x5cb0a9dc,
+    0x76f988da,
+    0x983e5152,
+    0xa831c66d,
+    0xb00327c8,
+    0xbf597fc7,
+    0xc6e00bf3,
+    0xd5a79147,
+    0x06ca6351,
+    0x14292967,
+    0x27b70a85,
+    0x2e1b2138,
+    0x4d2c6dfc,
+    0x53380d13,
+    0x650a7354,
+    0x766a0abb,
+    0x81c2c92e,
+    0x92722c85,
+    0xa2bfe8a1,
+    0xa81a664b,
+    0xc24b8b70,
+    0xc76c51a3,
+    0xd192e819,
+    0xd6990624,
+    0xf40e3585,
+    0x106aa070,
+    0x19a4c116,
+    0x1e376c08,
+    0x2748774c,
+    0x34b0bcb5,
+    0x391c0cb3,
+    0x4ed8aa4a,
+    0x5b9cca4f,
+    0x682e6ff3,
+    0x748f82ee,
+    0x78a5636f,
+    0x84c87814,
+    0x8cc70208,
+    0x90befffa,
+    0xa4506ceb,
+    0xbef9a3f7,
+    0xc67178f2,
+];
+
+// Addition modulo 2^32.
+fn add(a: u32, b: u32) -> u32
+    ensures { λ r. ⌜ r ≡ plus a b ⌝ }
+{
+    std::num::wrapping_add_u32(a, b)
+}
+
+// The six functions of section 4.1.2.
+fn upper_sigma0(x: u32) -> u32
+    ensures { λ r. ⌜ r ≡ upperSigma0 x ⌝ }
+{
+    ((x >> 2) | (x << 30)) ^ ((x >> 13) | (x << 19)) ^ ((x >> 22) | (x << 10))
+}
+
+fn upper_sigma1(x: u32) -> u32
+    ensures { λ r. ⌜ r ≡ upperSigma1 x ⌝ }
+{
+    ((x >> 6) | (x << 26)) ^ ((x >> 11) | (x << 21)) ^ ((x >> 25) | (x << 7))
+}
+
+fn lower_sigma0(x: u32) -> u32
+    ensures { λ r. ⌜ r ≡ sigma0 x ⌝ }
+{
+    ((x >> 7) | (x << 25)) ^ ((x >> 18) | (x << 14)) ^ (x >> 3)
+}
+
+fn lower_sigma1(x: u32) -> u32
+    ensures { λ r. ⌜ r ≡ sigma1 x ⌝ }
+{
+    ((x >> 17) | (x << 15)) ^ ((x >> 19) | (x << 13)) ^ (x >> 10)
+}
+
+fn choose(x: u32, y: u32, z: u32) -> u32
+    ensures { λ r. ⌜ r ≡ ch x y z ⌝ }
+{
+    (x & y) ^ (!x & z)
+}
+
+fn majority(x: u32, y: u32, z: u32) -> u32
+    ensures { λ r. ⌜ r ≡ maj x y z ⌝ }
+{
+    (x & y) ^ (x & z) ^ (y & z)
+}
+
+// One turn of the 64, on a to h.
+fn one_turn(v: [u32; 8], k: u32, w: u32) -> [u32; 8]
+    ensures { λ r. ⌜ r ≡ turn v k w ⌝ }
+{
+    let a = v[0];
+    let b = v[1];
+    let c = v[2];
+    let e = v[4];
+    let f = v[5];
+    let g = v[6];
+    let t1 = add(add(add(add(v[7], upper_sigma1(e)), choose(e, f, g)), k), w);
+    let t2 = add(upper_sigma0(a), majority(a, b, c));
+    [add(t1, t2), a, b, c, add(v[3], t1), e, f, g]
+}
+
+// The big-endian word of four bytes.
+fn word_of(a: u8, b: u8, c: u8, d: u8) -> u32
+    ensures { λ r. ⌜ r ≡ word a b c d ⌝ }
+{
+    (a as u32) * 0x100_0000 + (b as u32) * 0x1_0000 + (c as u32) * 0x100 + (d as u32)
+}
+
+// The block's sixteen words, with room for the rest of the schedule.
+fn load(b: &[u8; 64]) -> [u32; 64]
+    ensures { λ r. ⌜ take 16 r ≡ blockWords (now (b .entry)) ⌝ }
+{
+    let mut w = [0u32; 64];
+    let mut i: usize = 0;
+    while i < 16 {
+        let j = 4 * i;
+        w[i] = word_of(b[j], b[j + 1], b[j + 2], b[j + 3]);
+        i += 1;
+    }
+    w
+}
+
+// The word that follows n + 16 of the schedule.
+fn next_word(w: &[u32; 64], n: usize) -> u32
+    requires { ⌜ n < 48 ⌝ }
+    ensures { λ r. ⌜ r ≡ nextWord (now (w .entry)) n ⌝ }
+{
+    add(
+        add(
+            add(lower_sigma1(w[n + 14]), w[n + 9]),
+            lower_sigma0(w[n + 1]),
+        ),
+        w[n],
+    )
+}
+
+// The message schedule, all 64 words.
+fn full_schedule(b: &[u8; 64]) -> [u32; 64]
+    ensures { λ r. ⌜ r ≡ schedule (blockWords (now (b .entry))) 48 ⌝ }
+{
+    let mut w = load(b);
+    let mut n: usize = 0;
+    while n < 48 {
+        w[n + 16] = next_word(&w, n);
+        n += 1;
+    }
+    w
+}
+
+// The 64 turns. The constants are copied once, not once a turn.
+fn all_turns(w: [u32; 64], h: [u32; 8]) -> [u32; 8]
+    ensures { λ r. ⌜ r ≡ turns w h 64 ⌝ }
+{
+    let k = K;
+    let mut v = h;
+    let mut i: usize = 0;
+    while i < 64 {
+        let n = one_turn(v, k[i], w[i]);
+        v = n;
+        i += 1;
+    }
+    v
+}
+
+// The hash value after one more block.
+pub fn compress(h: [u32; 8], block: &[u8; 64]) -> [u32; 8]
+    ensures { λ r. ⌜ r ≡ compressed h (now (block .entry)) ⌝ }
+{
+    let v = all_turns(full_schedule(block), h);
+    [
+        add(v[0], h[0]),
+        add(v[1], h[1]),
+        add(v[2], h[2]),
+        add(v[3], h[3]),
+        add(v[4], h[4]),
+        add(v[5], h[5]),
+        add(v[6], h[6]),
+        add(v[7], h[7]),
+    ]
+}
+
+// The initial hash value.
+pub fn initial() -> [u32; 8]
+    ensures { λ r. ⌜ r ≡ initialHash ⌝ }
+{
+    [
+        0x6a09e667,
+        0xbb67ae85,
+        0x3c6ef372,
+        0xa54ff53a,
+        0x510e527f,
+        0x9b05688c,
+        0x1f83d9ab,
+        0x5be0cd19,
+    ]
+}
+
+// How many blocks the padded message has.
+pub fn block_count(m: &[u8]) -> usize
+    ensures { λ r. ⌜ r ≡ blocks (now (m .entry)) ⌝ }
+{
+    let n = m.len();
+    n / 64 + 1 + (n % 64 + 8) / 64
+}
+
+// Byte k of the eight that hold the length in bits of n bytes, modulo 2^64.
+fn length_byte(n: usize, k: usize) -> u8
+    requires { ⌜ k < 8 ⌝ }
+    ensures { λ r. ⌜ r ≡ 8 * n / 2 ^ (56 - 8 * k) % 256 ⌝ }
+{
+    ((n % 0x2000_0000_0000_0000 * 8 >> (56 - 8 * k)) % 256) as u8
+}
+
+// Byte j of the last block of a padded message of n bytes, where it is past the byte 0x80.
+fn last_byte(n: usize, j: usize) -> u8
+    requires { ⌜ j < 64 ⌝ }
+    ensures { λ r. ⌜ (j < 56 → r ≡ 0) ⌝ }
+    ensures { λ r. ⌜ (56 ≤ j → r ≡ 8 * n / 2 ^ (56 - 8 * (j - 56)) % 256) ⌝ }
+{
+    if j < 56 {
+        return 0;
+    }
+    length_byte(n, j - 56)
+}
+
+// Byte j of block i of the padded message. The block past the message's end goes first: there 64 * i may not fit.
+fn padded_byte(m: &[u8], i: usize, j: usize) -> u8
+    requires { ⌜ i < blocks (now m) ⌝ }
+    requires { ⌜ j < 64 ⌝ }
+    ensures { λ r. ⌜ r ≡ getD (pad (now (m .entry))) (64 * i + j) 0 ⌝ }
+{
+    let n = m.len();
+    if n / 64 < i {
+        return last_byte(n, j);
+    }
+    let at = 64 * i + j;
+    if at < n {
+        return m[at];
+    }
+    if at == n {
+        return 0x80;
+    }
+    if i < n / 64 + (n % 64 + 8) / 64 {
+        return 0;
+    }
+    last_byte(n, j)
+}
+
+// Block i of the padded message; zeros past the last.
+pub fn padded_block(m: &[u8], i: usize) -> [u8; 64]
+    ensures { λ r. ⌜ r ≡ blockAt (now (m .entry)) i ⌝ }
+{
+    let mut b = [0u8; 64];
+    if block_count(m) <= i {
+        return b;
+    }
+    let mut j: usize = 0;
+    while j < 64 {
+        b[j] = padded_byte(m, i, j);
+        j += 1;
+    }
+    b
+}
+
+// Byte k of a word, the first the most significant.
+fn word_byte(x: u32, k: usize) -> u8
+    requires { ⌜ k < 4 ⌝ }
+    ensures { λ r. ⌜ r ≡ getD (wordBytes x) k 0 ⌝ }
+{
+    ((x >> (24 - 8 * k)) % 256) as u8
+}
+
+// The digest: the words of a hash value as bytes.
+pub fn to_bytes(h: [u32; 8]) -> [u8; 32]
+    ensures { λ r. ⌜ r ≡ digestBytes h ⌝ }
+{
+    let mut d = [0u8; 32];
+    let mut i: usize = 0;
+    while i < 32 {
+        d[i] = word_byte(h[i / 4], i % 4);
+        i += 1;
+    }
+    d
+}
+
+// What hashing a message gives: the last hash value, and the count of blocks.
+pub struct Hashed {
+    pub state: [u32; 8],
+    pub blocks: usize,
+}
+
+// The hash value after all blocks of the message.
+pub fn hash(m: &[u8]) -> Hashed
+    ensures { λ r. ⌜ r ≡ record { state = stateAfter (now (m .entry)) (blocks (now (m .entry))); blocks = blocks (now (m .entry)) } ⌝ }
+{
+    let n = block_count(m);
+    let mut h = initial();
+    let mut i: usize = 0;
+    while i < n {
+        let b = padded_block(m, i);
+        let x = compress(h, &b);
+        h = x;
+        i += 1;
+    }
+    Hashed {
+        state: h,
+        blocks: n,
+    }
+}
+
+// SHA-256 of the message.
+pub fn digest(m: &[u8]) -> [u8; 32]
+    ensures { λ r. ⌜ r ≡ sha256 (now (m .entry)) ⌝ }
+{
+    let x = hash(m);
+    let h = x.state;
+    to_bytes(h)
+}
