@@ -1,33 +1,30 @@
--- SP 800-38A, section 6.2: the cipher block chaining mode. CIPH is any function of blocks, so the length of its key is no matter of this file.
+-- SP 800-38A, section 6.2: the cipher block chaining mode. CIPH is any function of blocks: the length of its key is no matter of CBC.
 use mathlib.Core.List.{List, [], _++_}
 use Prim.Native.Nat.{ℕ, zero, suc, _*_, _/_}
 use lib.ListN.{length, drop}
 use Rattle.octets.specs.Bytes.{xorBlock}
 use Rattle.octets.specs.Lists.{part}
 
--- "Pj ⊕ Cj−1": what the forward cipher function is applied to, where c is the IV for the first block
-unfoldable pub inputBlock : List ℕ → List ℕ → List ℕ
-inputBlock c p = xorBlock p c
-
--- "CIPH⁻¹K(Cj) ⊕ Cj−1", where c is the IV for the first block and x = CIPH⁻¹K(Cj)
-unfoldable pub plainBlock : List ℕ → List ℕ → List ℕ
-plainBlock c x = xorBlock x c
+-- "X ⊕ Y: the bitwise exclusive-OR of two bit strings X and Y of the same length", here of blocks. Shut: xorBlock writes sixteen bytes out
+infixl 65 _⊕_
+unfoldable pub _⊕_ : List ℕ → List ℕ → List ℕ
+x ⊕ y = xorBlock x y
 
 -- CBC encryption: "C1 = CIPHK(P1 ⊕ IV); Cj = CIPHK(Pj ⊕ Cj−1) for j = 2 … n", of the n blocks that s begins with
 unfoldable pub encrypted : (List ℕ → List ℕ) → List ℕ → ℕ → List ℕ → List ℕ
 encrypted ciph iv zero s = []
 encrypted ciph iv (suc n) s =
-    let c = ciph (inputBlock iv (part s 0 16)) in
+    let c : List ℕ = ciph (part s 0 16 ⊕ iv) in
     c ++ encrypted ciph c n (drop 16 s)
 
 -- CBC decryption: "P1 = CIPH⁻¹K(C1) ⊕ IV; Pj = CIPH⁻¹K(Cj) ⊕ Cj−1 for j = 2 … n"
 unfoldable pub decrypted : (List ℕ → List ℕ) → List ℕ → ℕ → List ℕ → List ℕ
 decrypted inv iv zero s = []
 decrypted inv iv (suc n) s =
-    let c = part s 0 16 in
-    plainBlock iv (inv c) ++ decrypted inv c n (drop 16 s)
+    let c : List ℕ = part s 0 16 in
+    (inv c ⊕ iv) ++ decrypted inv c n (drop 16 s)
 
--- a buffer of any length: its whole blocks encrypted, and fewer than sixteen bytes behind them as they were
+-- a buffer of any length: its whole blocks encrypted, and the fewer than sixteen bytes behind them as they were
 unfoldable pub encryptedWhole : (List ℕ → List ℕ) → List ℕ → List ℕ → List ℕ
 encryptedWhole ciph iv s = encrypted ciph iv (length s / 16) s ++ drop (16 * (length s / 16)) s
 

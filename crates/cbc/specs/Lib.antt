@@ -1,3 +1,5 @@
 pub mod Cbc
 pub mod Steps
+pub mod Chain
 pub mod Laws
+pub mod Aes
