@@ -16,7 +16,7 @@ module _ (nk : ℕ) (key : List ℕ) (hk : Bytes key) where
         ciph-block = aes-block nk key hk;
         inv-block = invAes-block nk key hk;
         inv-ciph = invAes-aes nk key hk;
-        ciph-inv = aes-invAes nk key hk
+        ciph-inv = aes-invAes nk key hk;
       }
 
   module _ (iv s : List ℕ) (hi : Bytes iv) (hs : Bytes s) where

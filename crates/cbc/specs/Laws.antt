@@ -20,7 +20,7 @@ unfolding _⊕_
 xor-block a b ha hb =
     record {
       long = refl;
-      byte = table-all (λ (x : ℕ). x < 256) (λ i. bitXor (getD a i 0) (getD b i 0)) 0 (λ m. xor-lt 8 (getD a m 0) (getD b m 0) (ha m) (hb m)) (omega arith) 16 0
+      byte = table-all (λ (x : ℕ). x < 256) (λ i. bitXor (getD a i 0) (getD b i 0)) 0 (λ m. xor-lt 8 (getD a m 0) (getD b m 0) (ha m) (hb m)) (omega arith) 16 0;
     }
 
 -- a ⊕ b ⊕ b is a
