@@ -61,3 +61,51 @@ fn decipher_block(
         sum: work::mix_step(sum, DECIPHERMENT, key, &input, &output),
     }
 }
+
+// CBC encryption of the whole blocks of the text, in place. What stands behind them stays.
+pub fn encipher(key: &[u8], w: &[[u8; 16]; 11], start: [u8; 16], text: &mut [u8], sum: u32) -> Made
+    ensures { λ r. ⌜ (r ≡ made encipherment sum (enciphered (now (key .entry)) (cipher 10 (now (w .entry))) start (length (now (text .entry)) / 16) (now (text .entry)))) × (now (text .exit) ≡ encryptedWhole (cipher 10 (now (w .entry))) start (now (text .entry))) ⌝ }
+{
+    let blocks = text.len() / 16;
+    let mut chained = start;
+    let mut count: usize = 0;
+    let mut after = sum;
+    while count < blocks {
+        let at = 16 * count;
+        let plain = octets::block_at(text, at);
+        let step = encipher_block(key, w, octets::xor_block(plain, chained), count, after);
+        chained = step.output;
+        octets::copy_at(text, at, &chained);
+        count = step.count;
+        after = step.sum;
+    }
+    Made {
+        count: count,
+        sum: after,
+    }
+}
+
+// CBC decryption of the whole blocks of the text, in place. What stands behind them stays.
+pub fn decipher(key: &[u8], w: &[[u8; 16]; 11], start: [u8; 16], text: &mut [u8], sum: u32) -> Made
+    ensures { λ r. ⌜ (r ≡ made decipherment sum (deciphered (now (key .entry)) (invCipher 10 (now (w .entry))) (length (now (text .entry)) / 16) (now (text .entry)))) × (now (text .exit) ≡ decryptedWhole (invCipher 10 (now (w .entry))) start (now (text .entry))) ⌝ }
+{
+    let blocks = text.len() / 16;
+    let mut chained = start;
+    let mut count: usize = 0;
+    let mut after = sum;
+    while count < blocks {
+        let at = 16 * count;
+        let cipher = octets::block_at(text, at);
+        let step = decipher_block(key, w, cipher, count, after);
+        let output = step.output;
+        let plain = octets::xor_block(output, chained);
+        octets::copy_at(text, at, &plain);
+        chained = cipher;
+        count = step.count;
+        after = step.sum;
+    }
+    Made {
+        count: count,
+        sum: after,
+    }
+}

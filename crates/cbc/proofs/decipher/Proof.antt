@@ -1,0 +1,128 @@
+-- `decipher` meets its contract. What is done of the text and what is left to do make the same whole (Turns). Assumes nothing.
+use Prim.Native.Nat.{_+_, _-_, _*_, _/_, _≤_}
+use mathlib.Core.Path.{_≡_, refl, ap, sym, _∙_}
+use mathlib.Core.List.{_++_}
+use native.Mathlib.Nat.{sub-zero}
+use native.Mathlib.Omega.{arith}
+use borrow.Author.Needs.{needs}
+use lib.ListN.{length, take, drop}
+use Rattle.rounds.specs.InvCipher.{invCipher}
+use Rattle.work.specs.Steps.{sumFrom}
+use Rattle.octets.specs.Bytes.{xorBlock}
+use Rattle.cbc.specs.Cbc.{_⊕_}
+use Rattle.cbc.specs.Steps.{deciphered}
+use Rattle.cbc.specs.Chain.{whole}
+use Rattle.cbc.specs.Laws.{unlink, taken, decrypted-whole}
+use Rattle.cbc.proofs.Turns.{text-turn, deciphered-turn, text-done, deciphered-done}
+use Rattle.cbc.proofs.decipher.Statement.{statement}
+use Rattle.cbc.proofs.decipher.Tie as tie
+use Rattle.cbc.proofs.decipher.Reads as reads
+use Rattle.cbc.proofs.decipher.Lts as lts
+use Rattle.cbc.proofs.decipher_block.Reads as decipher-block-reads
+use Rattle.octets.proofs.block_at.Reads as block-at-reads
+use Rattle.octets.proofs.copy_at.Reads as copy-at-reads
+use Rattle.octets.proofs.xor_block.Reads as xor-block-reads
+
+abbrev Inv-loop : tie.InvT-loop
+Inv-loop key w text₀ sum blocks chained₀ count₀ after₀ text chained count after =
+    (length text ≡ length text₀)
+    × (count ≤ blocks)
+    × (take (16 * count) text ++ whole (unlink (invCipher 10 w)) taken chained (drop (16 * count) text) ≡ whole (unlink (invCipher 10 w)) taken chained₀ text₀)
+    × (sumFrom after (deciphered key (invCipher 10 w) (blocks - count) (drop (16 * count) text)) ≡ sumFrom sum (deciphered key (invCipher 10 w) blocks text₀))
+
+abbrev μ-loop : tie.MeasureT-loop
+μ-loop key w text₀ sum blocks chained₀ count₀ after₀ text chained count after = blocks - count
+
+-- src/lib.rt:96:5
+loop-holds : tie.Need-loop-holds Inv-loop μ-loop
+loop-holds c = (refl, search needs, refl, simp sub-zero)
+
+-- src/lib.rt:97:18
+mul-at : tie.Need-mul-at Inv-loop μ-loop
+mul-at c = search needs
+
+-- src/lib.rt:98:13
+block-at-requires : tie.Need-block-at-requires Inv-loop μ-loop
+block-at-requires c κs = search needs
+
+-- src/lib.rt:99:13
+decipher-block-requires : tie.Need-decipher-block-requires Inv-loop μ-loop
+decipher-block-requires c κs = search needs
+
+-- src/lib.rt:101:21
+xor-block-requires : tie.Need-xor-block-requires Inv-loop μ-loop
+xor-block-requires c κs = search needs
+
+-- src/lib.rt:102:35
+slice-aggregate-copy-at : tie.Need-slice-aggregate-copy-at Inv-loop μ-loop
+slice-aggregate-copy-at c = search needs
+
+-- src/lib.rt:102:9
+copy-at-requires : tie.Need-copy-at-requires Inv-loop μ-loop
+copy-at-requires c κs = search needs
+
+-- src/lib.rt:96:5
+loop-less : tie.Need-loop-less Inv-loop μ-loop
+loop-less c =
+    let step = c .before .before .before .before .before .before .before .decipher-block in
+    omega (arith, ap (λ r. r .count) (step .ensures))
+
+-- src/lib.rt:96:5
+loop-again : tie.Need-loop-again Inv-loop μ-loop
+unfolding _⊕_
+loop-again c =
+    let b = c .before .before .before .before .before .before .before in
+    let l = b .before .before .before .before in
+    let q = l .loop .inv in
+    let a = l .before .before .before .args in
+    let f = invCipher 10 (a .w .now) in
+    let step = b .decipher-block in
+    let one = ap (λ r. r .count) (step .ensures) in
+    let x = b .before .block-at .ensures in
+    let y =
+        c .before .before .before .before .before .xor-block .ensures
+        ∙ ap (λ p. xorBlock p (l .loop .chained)) (ap (λ r. r .output) (step .ensures) ∙ ap f x) in
+    let long : length (c .before .before .before .before .before .xor-block .result) ≡ 16 = search needs in
+    let text = l .loop .text in
+    let now = c .before .before .copy-at .last .0 in
+    let at = 16 * l .loop .count in
+    let further : 16 * step .result .count ≡ at + 16 = omega arith in
+    let fits : at + 16 ≤ length text = omega arith in (
+      omega arith,
+      omega arith,
+      text-turn text _ now at _ fits long further (c .before .before .copy-at .ensures) (unlink f) taken _ _ _ y x (q .2),
+      deciphered-turn text _ now at _ fits long further (c .before .before .copy-at .ensures) _ f _ _ _ _ _ _
+          (b .before .before .before .loop-test .taken) one _ x (ap (λ r. r .sum) (step .ensures)) (q .3),
+    )
+
+-- src/lib.rt:89:1
+same-length : tie.Need-same-length Inv-loop μ-loop
+same-length c = c .before .loop .inv .0
+
+-- src/lib.rt:89:1
+returns : tie.Need-returns Inv-loop μ-loop
+returns c =
+    let l = c .before .loop in
+    let a = c .before .before .before .before .args in
+    let f = invCipher 10 (a .w .now) in (
+      deciphered-done _ f _ _ (length (a .text .now) / 16) (l .count) _ _ (omega arith) (l .inv .3),
+      text-done (unlink f) taken (l .chained) (l .text) _ (16 * l .count) (omega arith) (l .inv .2) ∙ sym (decrypted-whole f (a .start) (a .text .now)),
+    )
+
+pub decipher-spec : {M : Type 1} → statement M
+decipher-spec =
+    tie.close
+    (tie.spec
+    Inv-loop
+    μ-loop
+    loop-holds
+    mul-at
+    block-at-requires
+    decipher-block-requires
+    xor-block-requires
+    slice-aggregate-copy-at
+    copy-at-requires
+    loop-less
+    loop-again
+    same-length
+    returns)

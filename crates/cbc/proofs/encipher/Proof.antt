@@ -1,0 +1,129 @@
+-- `encipher` meets its contract. What is done of the text and what is left to do make the same whole (Turns). Assumes nothing.
+use Prim.Native.Nat.{_+_, _-_, _*_, _/_, _≤_}
+use mathlib.Core.Path.{_≡_, refl, ap, sym, _∙_}
+use mathlib.Core.List.{_++_}
+use native.Mathlib.Nat.{sub-zero}
+use native.Mathlib.Omega.{arith}
+use borrow.Author.Needs.{needs}
+use lib.ListN.{length, take, drop}
+use Rattle.rounds.specs.Cipher.{cipher}
+use Rattle.work.specs.Steps.{sumFrom}
+use Rattle.octets.specs.Bytes.{xorBlock}
+use Rattle.cbc.specs.Cbc.{_⊕_}
+use Rattle.cbc.specs.Steps.{enciphered}
+use Rattle.cbc.specs.Chain.{whole}
+use Rattle.cbc.specs.Laws.{link, encrypted-whole}
+use Rattle.cbc.proofs.Turns.{text-turn, enciphered-turn, text-done, enciphered-done}
+use Rattle.cbc.proofs.encipher.Statement.{statement}
+use Rattle.cbc.proofs.encipher.Tie as tie
+use Rattle.cbc.proofs.encipher.Reads as reads
+use Rattle.cbc.proofs.encipher.Lts as lts
+use Rattle.cbc.proofs.encipher_block.Reads as encipher-block-reads
+use Rattle.octets.proofs.block_at.Reads as block-at-reads
+use Rattle.octets.proofs.copy_at.Reads as copy-at-reads
+use Rattle.octets.proofs.xor_block.Reads as xor-block-reads
+
+abbrev Inv-loop : tie.InvT-loop
+Inv-loop key w text₀ sum blocks chained₀ count₀ after₀ text chained count after =
+    (length text ≡ length text₀)
+    × (count ≤ blocks)
+    × (take (16 * count) text ++ whole (link (cipher 10 w)) (link (cipher 10 w)) chained (drop (16 * count) text) ≡ whole (link (cipher 10 w)) (link (cipher 10 w)) chained₀ text₀)
+    × (sumFrom after (enciphered key (cipher 10 w) chained (blocks - count) (drop (16 * count) text)) ≡ sumFrom sum (enciphered key (cipher 10 w) chained₀ blocks text₀))
+
+abbrev μ-loop : tie.MeasureT-loop
+μ-loop key w text₀ sum blocks chained₀ count₀ after₀ text chained count after = blocks - count
+
+-- src/lib.rt:73:5
+loop-holds : tie.Need-loop-holds Inv-loop μ-loop
+loop-holds c = (refl, search needs, refl, simp sub-zero)
+
+-- src/lib.rt:74:18
+mul-at : tie.Need-mul-at Inv-loop μ-loop
+mul-at c = search needs
+
+-- src/lib.rt:75:13
+block-at-requires : tie.Need-block-at-requires Inv-loop μ-loop
+block-at-requires c κs = search needs
+
+-- src/lib.rt:76:43
+xor-block-requires : tie.Need-xor-block-requires Inv-loop μ-loop
+xor-block-requires c κs = search needs
+
+-- src/lib.rt:76:13
+encipher-block-requires : tie.Need-encipher-block-requires Inv-loop μ-loop
+encipher-block-requires c κs = search needs
+
+-- src/lib.rt:78:35
+slice-aggregate-copy-at : tie.Need-slice-aggregate-copy-at Inv-loop μ-loop
+slice-aggregate-copy-at c = search needs
+
+-- src/lib.rt:78:9
+copy-at-requires : tie.Need-copy-at-requires Inv-loop μ-loop
+copy-at-requires c κs =
+    let step = c .before .before .before .encipher-block in
+    let long : length (step .result .output) ≡ 16 = search (needs, step .ok) in
+    omega arith
+
+-- src/lib.rt:73:5
+loop-less : tie.Need-loop-less Inv-loop μ-loop
+loop-less c =
+    let step = c .before .before .before .before .before .before .encipher-block in
+    omega (arith, ap (λ r. r .count) (step .ensures))
+
+-- src/lib.rt:73:5
+loop-again : tie.Need-loop-again Inv-loop μ-loop
+unfolding _⊕_
+loop-again c =
+    let b = c .before .before .before .before .before .before in
+    let l = b .before .before .before .before .before in
+    let q = l .loop .inv in
+    let a = l .before .before .before .args in
+    let f = cipher 10 (a .w .now) in
+    let step = b .encipher-block in
+    let one = ap (λ r. r .count) (step .ensures) in
+    let y = ap (λ r. r .output) (step .ensures) in
+    let x = b .before .xor-block .ensures ∙ ap (λ p. xorBlock p (l .loop .chained)) (b .before .before .block-at .ensures) in
+    let long : length (step .result .output) ≡ 16 = search (needs, step .ok) in
+    let text = l .loop .text in
+    let now = c .before .before .copy-at .last .0 in
+    let at = 16 * l .loop .count in
+    let further : 16 * step .result .count ≡ at + 16 = omega arith in
+    let fits : at + 16 ≤ length text = omega arith in (
+      omega arith,
+      omega arith,
+      text-turn text _ now at _ fits long further (c .before .before .copy-at .ensures) (link f) (link f) _ _ _ (y ∙ ap f x) (y ∙ ap f x) (q .2),
+      enciphered-turn text _ now at _ fits long further (c .before .before .copy-at .ensures) _ f _ _ _ _ _ _
+          (b .before .before .before .before .loop-test .taken) one _ _ _ x y (ap (λ r. r .sum) (step .ensures)) (q .3),
+    )
+
+-- src/lib.rt:66:1
+same-length : tie.Need-same-length Inv-loop μ-loop
+same-length c = c .before .loop .inv .0
+
+-- src/lib.rt:66:1
+returns : tie.Need-returns Inv-loop μ-loop
+returns c =
+    let l = c .before .loop in
+    let a = c .before .before .before .before .args in
+    let f = cipher 10 (a .w .now) in (
+      enciphered-done _ f _ _ (length (a .text .now) / 16) (l .count) _ _ (omega arith) _ _ (l .inv .3),
+      text-done (link f) (link f) (l .chained) (l .text) _ (16 * l .count) (omega arith) (l .inv .2) ∙ sym (encrypted-whole f (a .start) (a .text .now)),
+    )
+
+pub encipher-spec : {M : Type 1} → statement M
+encipher-spec =
+    tie.close
+    (tie.spec
+    Inv-loop
+    μ-loop
+    loop-holds
+    mul-at
+    block-at-requires
+    xor-block-requires
+    encipher-block-requires
+    slice-aggregate-copy-at
+    copy-at-requires
+    loop-less
+    loop-again
+    same-length
+    returns)
