@@ -79,10 +79,11 @@ loop-again c =
     let step = b .decipher-block in
     let one = ap (λ r. r .count) (step .ensures) in
     let x = b .before .block-at .ensures in
+    let plain = c .before .before .before .before .before .xor-block in
     let y =
-        c .before .before .before .before .before .xor-block .ensures
+        plain .ensures
         ∙ ap (λ p. xorBlock p (l .loop .chained)) (ap (λ r. r .output) (step .ensures) ∙ ap f x) in
-    let long : length (c .before .before .before .before .before .xor-block .result) ≡ 16 = search needs in
+    let long : length (plain .result) ≡ 16 = ap length (plain .ensures) in
     let text = l .loop .text in
     let now = c .before .before .copy-at .last .0 in
     let at = 16 * l .loop .count in
