@@ -34,7 +34,7 @@ fn encipher_block(
     sum: u32,
 ) -> Stepped
     requires { ⌜ count + 1 < 2 ^ 64 ⌝ }
-    ensures { λ r. ⌜ r ≡ record { output = cipher 10 (now (w .entry)) input; count = count + 1; sum = mixedAll sum (bytesOf (encipherStep (now (key .entry)) (cipher 10 (now (w .entry))) input)) } ⌝ }
+    ensures { λ r. ⌜ (r .output ≡ cipher 10 (now (w .entry)) input) × (r .count ≡ count + 1) × (r .sum ≡ mixedAll sum (bytesOf (encipherStep (now (key .entry)) (cipher 10 (now (w .entry))) input))) ⌝ }
 {
     let output = aes::encipher(w, input);
     Stepped {
@@ -52,7 +52,7 @@ fn decipher_block(
     sum: u32,
 ) -> Stepped
     requires { ⌜ count + 1 < 2 ^ 64 ⌝ }
-    ensures { λ r. ⌜ r ≡ record { output = invCipher 10 (now (w .entry)) input; count = count + 1; sum = mixedAll sum (bytesOf (decipherStep (now (key .entry)) (invCipher 10 (now (w .entry))) input)) } ⌝ }
+    ensures { λ r. ⌜ (r .output ≡ invCipher 10 (now (w .entry)) input) × (r .count ≡ count + 1) × (r .sum ≡ mixedAll sum (bytesOf (decipherStep (now (key .entry)) (invCipher 10 (now (w .entry))) input))) ⌝ }
 {
     let output = aes::decipher(w, input);
     Stepped {

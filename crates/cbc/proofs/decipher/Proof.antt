@@ -16,12 +16,6 @@ use Rattle.cbc.specs.Laws.{unlink, taken, decrypted-whole}
 use Rattle.cbc.proofs.Turns.{text-turn, deciphered-turn, text-done, deciphered-done}
 use Rattle.cbc.proofs.decipher.Statement.{statement}
 use Rattle.cbc.proofs.decipher.Tie as tie
-use Rattle.cbc.proofs.decipher.Reads as reads
-use Rattle.cbc.proofs.decipher.Lts as lts
-use Rattle.cbc.proofs.decipher_block.Reads as decipher-block-reads
-use Rattle.octets.proofs.block_at.Reads as block-at-reads
-use Rattle.octets.proofs.copy_at.Reads as copy-at-reads
-use Rattle.octets.proofs.xor_block.Reads as xor-block-reads
 
 abbrev Inv-loop : tie.InvT-loop
 Inv-loop key w text₀ sum blocks chained₀ count₀ after₀ text chained count after =
@@ -33,41 +27,30 @@ Inv-loop key w text₀ sum blocks chained₀ count₀ after₀ text chained coun
 abbrev μ-loop : tie.MeasureT-loop
 μ-loop key w text₀ sum blocks chained₀ count₀ after₀ text chained count after = blocks - count
 
--- src/lib.rt:96:5
 loop-holds : tie.Need-loop-holds Inv-loop μ-loop
 loop-holds c = (refl, search needs, refl, simp sub-zero)
 
--- src/lib.rt:97:18
 mul-at : tie.Need-mul-at Inv-loop μ-loop
 mul-at c = search needs
 
--- src/lib.rt:98:13
 block-at-requires : tie.Need-block-at-requires Inv-loop μ-loop
 block-at-requires c κs = search needs
 
--- src/lib.rt:99:13
 decipher-block-requires : tie.Need-decipher-block-requires Inv-loop μ-loop
 decipher-block-requires c κs = search needs
 
--- src/lib.rt:101:21
 xor-block-requires : tie.Need-xor-block-requires Inv-loop μ-loop
 xor-block-requires c κs = search needs
 
--- src/lib.rt:102:35
 slice-aggregate-copy-at : tie.Need-slice-aggregate-copy-at Inv-loop μ-loop
 slice-aggregate-copy-at c = search needs
 
--- src/lib.rt:102:9
 copy-at-requires : tie.Need-copy-at-requires Inv-loop μ-loop
 copy-at-requires c κs = search needs
 
--- src/lib.rt:96:5
 loop-less : tie.Need-loop-less Inv-loop μ-loop
-loop-less c =
-    let step = c .before .before .before .before .before .before .before .decipher-block in
-    omega (arith, ap (λ r. r .count) (step .ensures))
+loop-less c = search needs
 
--- src/lib.rt:96:5
 loop-again : tie.Need-loop-again Inv-loop μ-loop
 unfolding _⊕_
 loop-again c =
@@ -77,12 +60,11 @@ loop-again c =
     let a = l .before .before .before .args in
     let f = invCipher 10 (a .w .now) in
     let step = b .decipher-block in
-    let one = ap (λ r. r .count) (step .ensures) in
     let x = b .before .block-at .ensures in
     let plain = c .before .before .before .before .before .xor-block in
     let y =
-        plain .ensures
-        ∙ ap (λ p. xorBlock p (l .loop .chained)) (ap (λ r. r .output) (step .ensures) ∙ ap f x) in
+    plain .ensures
+    ∙ ap (λ p. xorBlock p (l .loop .chained)) (step .ensures .0 ∙ ap f x) in
     let long : length (plain .result) ≡ 16 = ap length (plain .ensures) in
     let text = l .loop .text in
     let now = c .before .before .copy-at .last .0 in
@@ -93,14 +75,12 @@ loop-again c =
       omega arith,
       text-turn text _ now at _ fits long further (c .before .before .copy-at .ensures) (unlink f) taken _ _ _ y x (q .2),
       deciphered-turn text _ now at _ fits long further (c .before .before .copy-at .ensures) _ f _ _ _ _ _ _
-          (b .before .before .before .loop-test .taken) one _ x (ap (λ r. r .sum) (step .ensures)) (q .3),
+          (b .before .before .before .loop-test .taken) (step .ensures .1) _ x (step .ensures .2) (q .3),
     )
 
--- src/lib.rt:89:1
 same-length : tie.Need-same-length Inv-loop μ-loop
 same-length c = c .before .loop .inv .0
 
--- src/lib.rt:89:1
 returns : tie.Need-returns Inv-loop μ-loop
 returns c =
     let l = c .before .loop in

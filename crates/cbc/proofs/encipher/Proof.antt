@@ -16,12 +16,6 @@ use Rattle.cbc.specs.Laws.{link, encrypted-whole}
 use Rattle.cbc.proofs.Turns.{text-turn, enciphered-turn, text-done, enciphered-done}
 use Rattle.cbc.proofs.encipher.Statement.{statement}
 use Rattle.cbc.proofs.encipher.Tie as tie
-use Rattle.cbc.proofs.encipher.Reads as reads
-use Rattle.cbc.proofs.encipher.Lts as lts
-use Rattle.cbc.proofs.encipher_block.Reads as encipher-block-reads
-use Rattle.octets.proofs.block_at.Reads as block-at-reads
-use Rattle.octets.proofs.copy_at.Reads as copy-at-reads
-use Rattle.octets.proofs.xor_block.Reads as xor-block-reads
 
 abbrev Inv-loop : tie.InvT-loop
 Inv-loop key w text₀ sum blocks chained₀ count₀ after₀ text chained count after =
@@ -33,44 +27,33 @@ Inv-loop key w text₀ sum blocks chained₀ count₀ after₀ text chained coun
 abbrev μ-loop : tie.MeasureT-loop
 μ-loop key w text₀ sum blocks chained₀ count₀ after₀ text chained count after = blocks - count
 
--- src/lib.rt:73:5
 loop-holds : tie.Need-loop-holds Inv-loop μ-loop
 loop-holds c = (refl, search needs, refl, simp sub-zero)
 
--- src/lib.rt:74:18
 mul-at : tie.Need-mul-at Inv-loop μ-loop
 mul-at c = search needs
 
--- src/lib.rt:75:13
 block-at-requires : tie.Need-block-at-requires Inv-loop μ-loop
 block-at-requires c κs = search needs
 
--- src/lib.rt:76:43
 xor-block-requires : tie.Need-xor-block-requires Inv-loop μ-loop
 xor-block-requires c κs = search needs
 
--- src/lib.rt:76:13
 encipher-block-requires : tie.Need-encipher-block-requires Inv-loop μ-loop
 encipher-block-requires c κs = search needs
 
--- src/lib.rt:78:35
 slice-aggregate-copy-at : tie.Need-slice-aggregate-copy-at Inv-loop μ-loop
 slice-aggregate-copy-at c = search needs
 
--- src/lib.rt:78:9
 copy-at-requires : tie.Need-copy-at-requires Inv-loop μ-loop
 copy-at-requires c κs =
     let step = c .before .before .before .encipher-block in
     let long : length (step .result .output) ≡ 16 = search (needs, step .ok) in
     omega arith
 
--- src/lib.rt:73:5
 loop-less : tie.Need-loop-less Inv-loop μ-loop
-loop-less c =
-    let step = c .before .before .before .before .before .before .encipher-block in
-    omega (arith, ap (λ r. r .count) (step .ensures))
+loop-less c = search needs
 
--- src/lib.rt:73:5
 loop-again : tie.Need-loop-again Inv-loop μ-loop
 unfolding _⊕_
 loop-again c =
@@ -80,8 +63,7 @@ loop-again c =
     let a = l .before .before .before .args in
     let f = cipher 10 (a .w .now) in
     let step = b .encipher-block in
-    let one = ap (λ r. r .count) (step .ensures) in
-    let y = ap (λ r. r .output) (step .ensures) in
+    let y = step .ensures .0 in
     let x = b .before .xor-block .ensures ∙ ap (λ p. xorBlock p (l .loop .chained)) (b .before .before .block-at .ensures) in
     let long : length (step .result .output) ≡ 16 = search (needs, step .ok) in
     let text = l .loop .text in
@@ -93,14 +75,12 @@ loop-again c =
       omega arith,
       text-turn text _ now at _ fits long further (c .before .before .copy-at .ensures) (link f) (link f) _ _ _ (y ∙ ap f x) (y ∙ ap f x) (q .2),
       enciphered-turn text _ now at _ fits long further (c .before .before .copy-at .ensures) _ f _ _ _ _ _ _
-          (b .before .before .before .before .loop-test .taken) one _ _ _ x y (ap (λ r. r .sum) (step .ensures)) (q .3),
+          (b .before .before .before .before .loop-test .taken) (step .ensures .1) _ _ _ x y (step .ensures .2) (q .3),
     )
 
--- src/lib.rt:66:1
 same-length : tie.Need-same-length Inv-loop μ-loop
 same-length c = c .before .loop .inv .0
 
--- src/lib.rt:66:1
 returns : tie.Need-returns Inv-loop μ-loop
 returns c =
     let l = c .before .loop in
