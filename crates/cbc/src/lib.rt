@@ -5,7 +5,7 @@ ghost use lib.ListN.{length};
 ghost use Rattle.rounds.specs.Cipher.{cipher};
 ghost use Rattle.rounds.specs.InvCipher.{invCipher};
 ghost use Rattle.work.specs.Steps.{encipherment, decipherment, bytesOf, mixedAll};
-ghost use Rattle.cbc.specs.Cbc.{encryptedWhole, decryptedWhole};
+ghost use Rattle.cbc.specs.Cbc.{_⊕_, encryptedWhole, decryptedWhole};
 ghost use Rattle.cbc.specs.Steps.{encipherStep, decipherStep, enciphered, deciphered, made};
 
 // How many steps were made, and the work sum after them.
@@ -14,51 +14,57 @@ pub struct Made {
     pub sum: u32,
 }
 
-// One step's result, with the count and the work sum after it.
+// The block that a step's turn puts out, with the count and the work sum after the step.
 struct Stepped {
-    output: [u8; 16],
+    block: [u8; 16],
     count: usize,
     sum: u32,
 }
 
+// The kinds of a step.
 const DECIPHERMENT: u8 = 2;
 
 const ENCIPHERMENT: u8 = 3;
 
-// A block through AES. The key is what the work sum shows.
+// One block encrypted after the block before it. The key is only what the work sum shows.
 fn encipher_block(
     key: &[u8],
     w: &[[u8; 16]; 11],
-    input: [u8; 16],
+    before: [u8; 16],
+    plain: [u8; 16],
     count: usize,
     sum: u32,
 ) -> Stepped
     requires { ⌜ count + 1 < 2 ^ 64 ⌝ }
-    ensures { λ r. ⌜ (r .output ≡ cipher 10 (now (w .entry)) input) × (r .count ≡ count + 1) × (r .sum ≡ mixedAll sum (bytesOf (encipherStep (now (key .entry)) (cipher 10 (now (w .entry))) input))) ⌝ }
+    ensures { λ r. ⌜ (r .block ≡ cipher 10 (now (w .entry)) (plain ⊕ before)) × (r .count ≡ count + 1) × (r .sum ≡ mixedAll sum (bytesOf (encipherStep (now (key .entry)) (cipher 10 (now (w .entry))) (plain ⊕ before)))) ⌝ }
 {
+    let input = octets::xor_block(plain, before);
     let output = aes::encipher(w, input);
     Stepped {
-        output: output,
+        block: output,
         count: count + 1,
         sum: work::mix_step(sum, ENCIPHERMENT, key, &input, &output),
     }
 }
 
+// One block decrypted after the block before it.
 fn decipher_block(
     key: &[u8],
     w: &[[u8; 16]; 11],
-    input: [u8; 16],
+    before: [u8; 16],
+    cipher: [u8; 16],
     count: usize,
     sum: u32,
 ) -> Stepped
     requires { ⌜ count + 1 < 2 ^ 64 ⌝ }
-    ensures { λ r. ⌜ (r .output ≡ invCipher 10 (now (w .entry)) input) × (r .count ≡ count + 1) × (r .sum ≡ mixedAll sum (bytesOf (decipherStep (now (key .entry)) (invCipher 10 (now (w .entry))) input))) ⌝ }
+    ensures { λ r. ⌜ (r .block ≡ invCipher 10 (now (w .entry)) cipher ⊕ before) × (r .count ≡ count + 1) × (r .sum ≡ mixedAll sum (bytesOf (decipherStep (now (key .entry)) (invCipher 10 (now (w .entry))) cipher))) ⌝ }
 {
-    let output = aes::decipher(w, input);
+    let output = aes::decipher(w, cipher);
+    let plain = octets::xor_block(output, before);
     Stepped {
-        output: output,
+        block: plain,
         count: count + 1,
-        sum: work::mix_step(sum, DECIPHERMENT, key, &input, &output),
+        sum: work::mix_step(sum, DECIPHERMENT, key, &cipher, &output),
     }
 }
 
@@ -73,9 +79,10 @@ pub fn encipher(key: &[u8], w: &[[u8; 16]; 11], start: [u8; 16], text: &mut [u8]
     while count < blocks {
         let at = 16 * count;
         let plain = octets::block_at(text, at);
-        let step = encipher_block(key, w, octets::xor_block(plain, chained), count, after);
-        chained = step.output;
-        octets::copy_at(text, at, &chained);
+        let step = encipher_block(key, w, chained, plain, count, after);
+        let cipher = step.block;
+        octets::copy_at(text, at, &cipher);
+        chained = cipher;
         count = step.count;
         after = step.sum;
     }
@@ -90,17 +97,16 @@ pub fn decipher(key: &[u8], w: &[[u8; 16]; 11], start: [u8; 16], text: &mut [u8]
     ensures { λ r. ⌜ (r ≡ made decipherment sum (deciphered (now (key .entry)) (invCipher 10 (now (w .entry))) (length (now (text .entry)) / 16) (now (text .entry)))) × (now (text .exit) ≡ decryptedWhole (invCipher 10 (now (w .entry))) start (now (text .entry))) ⌝ }
 {
     let blocks = text.len() / 16;
-    let mut chained = start;
+    let mut previous = start;
     let mut count: usize = 0;
     let mut after = sum;
     while count < blocks {
         let at = 16 * count;
         let cipher = octets::block_at(text, at);
-        let step = decipher_block(key, w, cipher, count, after);
-        let output = step.output;
-        let plain = octets::xor_block(output, chained);
+        let step = decipher_block(key, w, previous, cipher, count, after);
+        let plain = step.block;
         octets::copy_at(text, at, &plain);
-        chained = cipher;
+        previous = cipher;
         count = step.count;
         after = step.sum;
     }

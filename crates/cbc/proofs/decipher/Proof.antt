@@ -8,7 +8,6 @@ use borrow.Author.Needs.{needs}
 use lib.ListN.{length, take, drop}
 use Rattle.rounds.specs.InvCipher.{invCipher}
 use Rattle.work.specs.Steps.{sumFrom}
-use Rattle.octets.specs.Bytes.{xorBlock}
 use Rattle.cbc.specs.Cbc.{_⊕_}
 use Rattle.cbc.specs.Steps.{deciphered}
 use Rattle.cbc.specs.Chain.{whole}
@@ -18,14 +17,14 @@ use Rattle.cbc.proofs.decipher.Statement.{statement}
 use Rattle.cbc.proofs.decipher.Tie as tie
 
 abbrev Inv-loop : tie.InvT-loop
-Inv-loop key w text₀ sum blocks chained₀ count₀ after₀ text chained count after =
+Inv-loop key w text₀ sum blocks previous₀ count₀ after₀ text previous count after =
     (length text ≡ length text₀)
     × (count ≤ blocks)
-    × (take (16 * count) text ++ whole (unlink (invCipher 10 w)) taken chained (drop (16 * count) text) ≡ whole (unlink (invCipher 10 w)) taken chained₀ text₀)
+    × (take (16 * count) text ++ whole (unlink (invCipher 10 w)) taken previous (drop (16 * count) text) ≡ whole (unlink (invCipher 10 w)) taken previous₀ text₀)
     × (sumFrom after (deciphered key (invCipher 10 w) (blocks - count) (drop (16 * count) text)) ≡ sumFrom sum (deciphered key (invCipher 10 w) blocks text₀))
 
 abbrev μ-loop : tie.MeasureT-loop
-μ-loop key w text₀ sum blocks chained₀ count₀ after₀ text chained count after = blocks - count
+μ-loop key w text₀ sum blocks previous₀ count₀ after₀ text previous count after = blocks - count
 
 loop-holds : tie.Need-loop-holds Inv-loop μ-loop
 loop-holds c = (refl, search needs, refl, simp sub-zero)
@@ -39,43 +38,38 @@ block-at-requires c κs = search needs
 decipher-block-requires : tie.Need-decipher-block-requires Inv-loop μ-loop
 decipher-block-requires c κs = search needs
 
-xor-block-requires : tie.Need-xor-block-requires Inv-loop μ-loop
-xor-block-requires c κs = search needs
-
 slice-aggregate-copy-at : tie.Need-slice-aggregate-copy-at Inv-loop μ-loop
 slice-aggregate-copy-at c = search needs
 
 copy-at-requires : tie.Need-copy-at-requires Inv-loop μ-loop
-copy-at-requires c κs = search needs
+copy-at-requires c κs =
+    let step = c .before .before .before .decipher-block in
+    let long : length (step .result .block) ≡ 16 = search (needs, step .ok) in
+    omega arith
 
 loop-less : tie.Need-loop-less Inv-loop μ-loop
 loop-less c = search needs
 
 loop-again : tie.Need-loop-again Inv-loop μ-loop
-unfolding _⊕_
 loop-again c =
-    let b = c .before .before .before .before .before .before .before in
+    let b = c .before .before .before .before .before .before in
     let l = b .before .before .before .before in
     let q = l .loop .inv in
-    let a = l .before .before .before .args in
-    let f = invCipher 10 (a .w .now) in
+    let f = invCipher 10 (l .before .before .before .args .w .now) in
     let step = b .decipher-block in
     let x = b .before .block-at .ensures in
-    let plain = c .before .before .before .before .before .xor-block in
-    let y =
-    plain .ensures
-    ∙ ap (λ p. xorBlock p (l .loop .chained)) (step .ensures .0 ∙ ap f x) in
-    let long : length (plain .result) ≡ 16 = ap length (plain .ensures) in
+    let y = step .ensures .0 ∙ ap (λ z. f z ⊕ l .loop .previous) x in
+    let long : length (step .result .block) ≡ 16 = search (needs, step .ok) in
     let text = l .loop .text in
     let now = c .before .before .copy-at .last .0 in
+    let put = c .before .before .copy-at .ensures in
     let at = 16 * l .loop .count in
     let further : 16 * step .result .count ≡ at + 16 = omega arith in
     let fits : at + 16 ≤ length text = omega arith in (
       omega arith,
       omega arith,
-      text-turn text _ now at _ fits long further (c .before .before .copy-at .ensures) (unlink f) taken _ _ _ y x (q .2),
-      deciphered-turn text _ now at _ fits long further (c .before .before .copy-at .ensures) _ f _ _ _ _ _ _
-          (b .before .before .before .loop-test .taken) (step .ensures .1) _ x (step .ensures .2) (q .3),
+      text-turn text _ now at _ fits long further put (unlink f) taken _ _ _ y x (q .2),
+      deciphered-turn text _ now at _ fits long further put _ f _ _ _ _ _ _ (b .before .before .before .loop-test .taken) (step .ensures .1) _ x (step .ensures .2) (q .3),
     )
 
 same-length : tie.Need-same-length Inv-loop μ-loop
@@ -87,7 +81,7 @@ returns c =
     let a = c .before .before .before .before .args in
     let f = invCipher 10 (a .w .now) in (
       deciphered-done _ f _ _ (length (a .text .now) / 16) (l .count) _ _ (omega arith) (l .inv .3),
-      text-done (unlink f) taken (l .chained) (l .text) _ (16 * l .count) (omega arith) (l .inv .2) ∙ sym (decrypted-whole f (a .start) (a .text .now)),
+      text-done (unlink f) taken (l .previous) (l .text) _ (16 * l .count) (omega arith) (l .inv .2) ∙ sym (decrypted-whole f (a .start) (a .text .now)),
     )
 
 pub decipher-spec : {M : Type 1} → statement M
@@ -100,7 +94,6 @@ decipher-spec =
     mul-at
     block-at-requires
     decipher-block-requires
-    xor-block-requires
     slice-aggregate-copy-at
     copy-at-requires
     loop-less

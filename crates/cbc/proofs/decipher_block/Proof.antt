@@ -1,14 +1,21 @@
--- `decipher_block` meets its contract, by those of its two calls. Assumes nothing.
-use mathlib.Core.Path.{refl}
+-- `decipher_block` meets its contract, by those of its calls. Assumes nothing.
+use mathlib.Core.Path.{refl, ap, _∙_}
+use lib.ListN.{length}
 use borrow.Author.Needs.{needs}
+use Rattle.octets.specs.Bytes.{xorBlock}
+use Rattle.rounds.specs.InvCipher.{invCipher}
+use Rattle.cbc.specs.Cbc.{_⊕_}
 use Rattle.cbc.proofs.decipher_block.Statement.{statement}
 use Rattle.cbc.proofs.decipher_block.Tie as tie
 
 decipher-requires : tie.Need-decipher-requires
 decipher-requires c κs = search needs
 
-add-t10 : tie.Need-add-t10
-add-t10 c = search needs
+xor-block-requires : tie.Need-xor-block-requires
+xor-block-requires c κs = search needs
+
+add-t12 : tie.Need-add-t12
+add-t12 c = search needs
 
 slice-aggregate-mix-step : tie.Need-slice-aggregate-mix-step
 slice-aggregate-mix-step c = search needs
@@ -20,14 +27,19 @@ mix-step-requires : tie.Need-mix-step-requires
 mix-step-requires c κs = search needs
 
 returns : tie.Need-returns
-returns c = (c .before .before .before .decipher .ensures, refl, simp (c .mix-step .ensures, c .before .before .before .decipher .ensures))
+unfolding _⊕_
+returns c =
+    let b = c .before .before .before in
+    let y = b .before .decipher .ensures in
+    (b .xor-block .ensures ∙ ap (λ x. xorBlock x (b .before .before .before .args .before)) y, refl, simp (c .mix-step .ensures, y))
 
 pub decipher-block-spec : {M : Type 1} → statement M
 decipher-block-spec =
     tie.close
     (tie.spec
     decipher-requires
-    add-t10
+    xor-block-requires
+    add-t12
     slice-aggregate-mix-step
     slice-aggregate-mix-step-2
     mix-step-requires

@@ -8,7 +8,6 @@ use borrow.Author.Needs.{needs}
 use lib.ListN.{length, take, drop}
 use Rattle.rounds.specs.Cipher.{cipher}
 use Rattle.work.specs.Steps.{sumFrom}
-use Rattle.octets.specs.Bytes.{xorBlock}
 use Rattle.cbc.specs.Cbc.{_⊕_}
 use Rattle.cbc.specs.Steps.{enciphered}
 use Rattle.cbc.specs.Chain.{whole}
@@ -36,9 +35,6 @@ mul-at c = search needs
 block-at-requires : tie.Need-block-at-requires Inv-loop μ-loop
 block-at-requires c κs = search needs
 
-xor-block-requires : tie.Need-xor-block-requires Inv-loop μ-loop
-xor-block-requires c κs = search needs
-
 encipher-block-requires : tie.Need-encipher-block-requires Inv-loop μ-loop
 encipher-block-requires c κs = search needs
 
@@ -48,34 +44,32 @@ slice-aggregate-copy-at c = search needs
 copy-at-requires : tie.Need-copy-at-requires Inv-loop μ-loop
 copy-at-requires c κs =
     let step = c .before .before .before .encipher-block in
-    let long : length (step .result .output) ≡ 16 = search (needs, step .ok) in
+    let long : length (step .result .block) ≡ 16 = search (needs, step .ok) in
     omega arith
 
 loop-less : tie.Need-loop-less Inv-loop μ-loop
 loop-less c = search needs
 
 loop-again : tie.Need-loop-again Inv-loop μ-loop
-unfolding _⊕_
 loop-again c =
     let b = c .before .before .before .before .before .before in
-    let l = b .before .before .before .before .before in
+    let l = b .before .before .before .before in
     let q = l .loop .inv in
-    let a = l .before .before .before .args in
-    let f = cipher 10 (a .w .now) in
+    let f = cipher 10 (l .before .before .before .args .w .now) in
     let step = b .encipher-block in
-    let y = step .ensures .0 in
-    let x = b .before .xor-block .ensures ∙ ap (λ p. xorBlock p (l .loop .chained)) (b .before .before .block-at .ensures) in
-    let long : length (step .result .output) ≡ 16 = search (needs, step .ok) in
+    let x = ap (λ p. p ⊕ l .loop .chained) (b .before .block-at .ensures) in
+    let y = step .ensures .0 ∙ ap f x in
+    let long : length (step .result .block) ≡ 16 = search (needs, step .ok) in
     let text = l .loop .text in
     let now = c .before .before .copy-at .last .0 in
+    let put = c .before .before .copy-at .ensures in
     let at = 16 * l .loop .count in
     let further : 16 * step .result .count ≡ at + 16 = omega arith in
     let fits : at + 16 ≤ length text = omega arith in (
       omega arith,
       omega arith,
-      text-turn text _ now at _ fits long further (c .before .before .copy-at .ensures) (link f) (link f) _ _ _ (y ∙ ap f x) (y ∙ ap f x) (q .2),
-      enciphered-turn text _ now at _ fits long further (c .before .before .copy-at .ensures) _ f _ _ _ _ _ _
-          (b .before .before .before .before .loop-test .taken) (step .ensures .1) _ _ _ x y (step .ensures .2) (q .3),
+      text-turn text _ now at _ fits long further put (link f) (link f) _ _ _ y y (q .2),
+      enciphered-turn text _ now at _ fits long further put _ f _ _ _ _ _ _ (b .before .before .before .loop-test .taken) (step .ensures .1) _ _ _ x (step .ensures .0) (step .ensures .2) (q .3),
     )
 
 same-length : tie.Need-same-length Inv-loop μ-loop
@@ -99,7 +93,6 @@ encipher-spec =
     loop-holds
     mul-at
     block-at-requires
-    xor-block-requires
     encipher-block-requires
     slice-aggregate-copy-at
     copy-at-requires

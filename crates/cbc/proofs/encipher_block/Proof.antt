@@ -1,14 +1,21 @@
--- `encipher_block` meets its contract, by those of its two calls. Assumes nothing.
-use mathlib.Core.Path.{refl}
+-- `encipher_block` meets its contract, by those of its calls. Assumes nothing.
+use mathlib.Core.Path.{refl, ap, _∙_}
+use lib.ListN.{length}
 use borrow.Author.Needs.{needs}
+use Rattle.octets.specs.Bytes.{xorBlock}
+use Rattle.rounds.specs.Cipher.{cipher}
+use Rattle.cbc.specs.Cbc.{_⊕_}
 use Rattle.cbc.proofs.encipher_block.Statement.{statement}
 use Rattle.cbc.proofs.encipher_block.Tie as tie
+
+xor-block-requires : tie.Need-xor-block-requires
+xor-block-requires c κs = search needs
 
 encipher-requires : tie.Need-encipher-requires
 encipher-requires c κs = search needs
 
-add-t10 : tie.Need-add-t10
-add-t10 c = search needs
+add-t11 : tie.Need-add-t11
+add-t11 c = search needs
 
 slice-aggregate-mix-step : tie.Need-slice-aggregate-mix-step
 slice-aggregate-mix-step c = search needs
@@ -20,14 +27,20 @@ mix-step-requires : tie.Need-mix-step-requires
 mix-step-requires c κs = search needs
 
 returns : tie.Need-returns
-returns c = (c .before .before .before .encipher .ensures, refl, simp (c .mix-step .ensures, c .before .before .before .encipher .ensures))
+unfolding _⊕_
+returns c =
+    let b = c .before .before .before in
+    let w = b .before .before .before .args .w .now in
+    let y = b .encipher .ensures ∙ ap (cipher 10 w) (b .before .xor-block .ensures) in
+    (y, refl, simp (c .mix-step .ensures, y, b .before .xor-block .ensures))
 
 pub encipher-block-spec : {M : Type 1} → statement M
 encipher-block-spec =
     tie.close
     (tie.spec
+    xor-block-requires
     encipher-requires
-    add-t10
+    add-t11
     slice-aggregate-mix-step
     slice-aggregate-mix-step-2
     mix-step-requires
