@@ -1,17 +1,17 @@
 -- A turn of CBC in place: what is done of the text and what is left to do make the same whole, and so do the steps. Assumes nothing.
-use mathlib.Core.Path.{_≡_, refl, sym, ap, ap₂, _∙_}
-use mathlib.Core.List.{List, [], _++_, append-assoc}
-use Prim.Native.Nat.{ℕ, suc, _+_, _-_, _*_, _/_, _<_, _≤_}
+use mathlib.Core.Path.{_≡_, sym, ap, ap₂, _∙_}
+use mathlib.Core.List.{List, _++_, append-assoc}
+use Prim.Native.Nat.{ℕ, suc, _+_, _-_, _<_, _≤_}
 use native.Mathlib.Omega.{arith}
 use lib.ListN.{length, take, drop, length-append, length-drop, take-append-drop}
 use lib.Seq.{take-at, drop-at, drop-drop, length-take-le}
 use Rattle.octets.specs.Lists.{part, over}
-use Rattle.work.specs.Steps.{bytesOf, mixedAll, sumFrom, counted, decipherment, encipherment}
+use Rattle.work.specs.Steps.{bytesOf, mixedAll, sumFrom, decipherment, encipherment}
 use Rattle.cbc.specs.declared.Made.{Made}
 use Rattle.cbc.specs.Cbc.{_⊕_}
 use Rattle.cbc.specs.Steps.{encipherStep, decipherStep, enciphered, deciphered, made}
 use Rattle.cbc.specs.Chain.{whole, whole-more, whole-none}
-use Rattle.cbc.specs.Laws.{link, unlink, taken, counted-enciphered, counted-deciphered}
+use Rattle.cbc.specs.Laws.{counted-enciphered, counted-deciphered}
 
 -- a block y written over the text, and what stands behind it
 module _ (text y text′ : List ℕ) (at at′ : ℕ) (fits : at + 16 ≤ length text) (long : length y ≡ 16) (further : at′ ≡ at + 16) (written : text′ ≡ over text at y) where

@@ -1,14 +1,14 @@
 -- CBC's lengths and bytes, that each way undoes the other, and how many steps each makes. Assumes nothing.
-use mathlib.Core.Path.{_≡_, refl, sym, ap, ap₂, _∙_}
-use mathlib.Core.List.{List, [], _∷_, _++_}
-use Prim.Native.Nat.{ℕ, zero, suc, _+_, _*_, _/_, _<_, _≤_}
+use mathlib.Core.Path.{_≡_, refl, sym, ap, _∙_}
+use mathlib.Core.List.{List, _++_}
+use Prim.Native.Nat.{ℕ, zero, suc, _*_, _/_, _<_, _≤_}
 use native.Mathlib.Nat.{zero-add}
 use native.Mathlib.Omega.{arith}
 use borrow.Author.Tests.{ne-eqb}
 use lib.Bits.{bitXor, xor-lt}
 use lib.ListN.{length, getD, drop}
 use Rattle.octets.specs.Bytes.{Bytes, Block, xorBlock}
-use Rattle.octets.specs.Lists.{table, table-all, table-ext, tabled, getD-table, length-table, part}
+use Rattle.octets.specs.Lists.{table-all, table-ext, tabled, getD-table, part}
 use Rattle.octets.specs.Xor.{xor-cancel}
 use Rattle.work.specs.Steps.{counted, decipherment, encipherment}
 use Rattle.cbc.specs.Cbc.{_⊕_, encrypted, decrypted, encryptedWhole, decryptedWhole}

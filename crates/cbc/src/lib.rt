@@ -40,9 +40,10 @@ fn encipher_block(
 {
     let input = octets::xor_block(plain, before);
     let output = aes::encipher(w, input);
+    let made = count + 1;
     Stepped {
         block: output,
-        count: count + 1,
+        count: made,
         sum: work::mix_step(sum, ENCIPHERMENT, key, &input, &output),
     }
 }
@@ -61,9 +62,10 @@ fn decipher_block(
 {
     let output = aes::decipher(w, cipher);
     let plain = octets::xor_block(output, before);
+    let made = count + 1;
     Stepped {
         block: plain,
-        count: count + 1,
+        count: made,
         sum: work::mix_step(sum, DECIPHERMENT, key, &cipher, &output),
     }
 }

@@ -1,9 +1,7 @@
 -- `decipher_block` meets its contract, by those of its calls. Assumes nothing.
 use mathlib.Core.Path.{refl, ap, _∙_}
-use lib.ListN.{length}
 use borrow.Author.Needs.{needs}
 use Rattle.octets.specs.Bytes.{xorBlock}
-use Rattle.rounds.specs.InvCipher.{invCipher}
 use Rattle.cbc.specs.Cbc.{_⊕_}
 use Rattle.cbc.proofs.decipher_block.Statement.{statement}
 use Rattle.cbc.proofs.decipher_block.Tie as tie
@@ -14,8 +12,8 @@ decipher-requires c κs = search needs
 xor-block-requires : tie.Need-xor-block-requires
 xor-block-requires c κs = search needs
 
-add-t12 : tie.Need-add-t12
-add-t12 c = search needs
+add-made : tie.Need-add-made
+add-made c = search needs
 
 slice-aggregate-mix-step : tie.Need-slice-aggregate-mix-step
 slice-aggregate-mix-step c = search needs
@@ -39,7 +37,7 @@ decipher-block-spec =
     (tie.spec
     decipher-requires
     xor-block-requires
-    add-t12
+    add-made
     slice-aggregate-mix-step
     slice-aggregate-mix-step-2
     mix-step-requires

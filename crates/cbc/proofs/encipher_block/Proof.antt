@@ -1,8 +1,6 @@
 -- `encipher_block` meets its contract, by those of its calls. Assumes nothing.
 use mathlib.Core.Path.{refl, ap, _∙_}
-use lib.ListN.{length}
 use borrow.Author.Needs.{needs}
-use Rattle.octets.specs.Bytes.{xorBlock}
 use Rattle.rounds.specs.Cipher.{cipher}
 use Rattle.cbc.specs.Cbc.{_⊕_}
 use Rattle.cbc.proofs.encipher_block.Statement.{statement}
@@ -14,8 +12,8 @@ xor-block-requires c κs = search needs
 encipher-requires : tie.Need-encipher-requires
 encipher-requires c κs = search needs
 
-add-t11 : tie.Need-add-t11
-add-t11 c = search needs
+add-made : tie.Need-add-made
+add-made c = search needs
 
 slice-aggregate-mix-step : tie.Need-slice-aggregate-mix-step
 slice-aggregate-mix-step c = search needs
@@ -40,7 +38,7 @@ encipher-block-spec =
     (tie.spec
     xor-block-requires
     encipher-requires
-    add-t11
+    add-made
     slice-aggregate-mix-step
     slice-aggregate-mix-step-2
     mix-step-requires
