@@ -5,7 +5,7 @@ use lib.ListN.{length, drop}
 use Rattle.octets.specs.Bytes.{xorBlock}
 use Rattle.octets.specs.Lists.{part}
 
--- "X ⊕ Y: the bitwise exclusive-OR of two bit strings X and Y of the same length", here of blocks. Shut: xorBlock writes sixteen bytes out
+-- ⊕, the exclusive or of two blocks. Shut: xorBlock writes its sixteen bytes out wherever it stands
 infixl 65 _⊕_
 unfoldable pub _⊕_ : List ℕ → List ℕ → List ℕ
 x ⊕ y = xorBlock x y
