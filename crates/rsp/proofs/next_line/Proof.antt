@@ -1,0 +1,51 @@
+-- `rsp::next_line` meets its contract. The loop passes only forward; the measure is what is left of the file. Assumes nothing.
+use Prim.Native.Nat.{_-_, _≤_}
+use borrow.Author.Needs.{needs}
+use lib.ListN.{length}
+use Rattle.rsp.proofs.next_line.Statement.{statement}
+use Rattle.rsp.proofs.next_line.Tie as tie
+
+abbrev Inv-loop : tie.InvT-loop
+Inv-loop s i e₀ e = i ≤ e
+
+abbrev μ-loop : tie.MeasureT-loop
+μ-loop s i e₀ e = length s - e
+
+loop-holds : tie.Need-loop-holds Inv-loop μ-loop
+loop-holds c = search needs
+
+shared-slice-read-if1 : tie.Need-shared-slice-read-if1 Inv-loop μ-loop
+shared-slice-read-if1 c = search needs
+
+add-result : tie.Need-add-result Inv-loop μ-loop
+add-result c = search needs
+
+returns : tie.Need-returns Inv-loop μ-loop
+returns c = search needs
+
+add-e : tie.Need-add-e Inv-loop μ-loop
+add-e c = search needs
+
+loop-less : tie.Need-loop-less Inv-loop μ-loop
+loop-less c = search needs
+
+loop-again : tie.Need-loop-again Inv-loop μ-loop
+loop-again c = search needs
+
+returns-2 : tie.Need-returns-2 Inv-loop μ-loop
+returns-2 c = search needs
+
+pub next-line-spec : {M : Type 1} → statement M
+next-line-spec =
+    tie.close
+    (tie.spec
+    Inv-loop
+    μ-loop
+    loop-holds
+    shared-slice-read-if1
+    add-result
+    returns
+    add-e
+    loop-less
+    loop-again
+    returns-2)

@@ -1,0 +1,62 @@
+-- `speed::decipher` is safe and ends: the loop counts to `times`. Assumes nothing.
+use Prim.Native.Nat.{_-_}
+use borrow.Author.Needs.{needs}
+use Rattle.speed.proofs.decipher.Statement.{statement}
+use Rattle.speed.proofs.decipher.Tie as tie
+
+abbrev Inv-loop : tie.InvT-loop
+Inv-loop times w b₀ i₀ b i = Unit {0}
+
+abbrev μ-loop : tie.MeasureT-loop
+μ-loop times w b₀ i₀ b i = times - i
+
+slice-aggregate-block : tie.Need-slice-aggregate-block Inv-loop μ-loop
+slice-aggregate-block c = search needs
+
+block-requires : tie.Need-block-requires Inv-loop μ-loop
+block-requires c κs = search needs
+
+expand-requires : tie.Need-expand-requires Inv-loop μ-loop
+expand-requires c κs = search needs
+
+slice-aggregate-block-2 : tie.Need-slice-aggregate-block-2 Inv-loop μ-loop
+slice-aggregate-block-2 c = search needs
+
+block-requires-2 : tie.Need-block-requires-2 Inv-loop μ-loop
+block-requires-2 c κs = search needs
+
+loop-holds : tie.Need-loop-holds Inv-loop μ-loop
+loop-holds c = search needs
+
+decipher-requires : tie.Need-decipher-requires Inv-loop μ-loop
+decipher-requires c κs = search needs
+
+add-i : tie.Need-add-i Inv-loop μ-loop
+add-i c = search needs
+
+loop-less : tie.Need-loop-less Inv-loop μ-loop
+loop-less c = search needs
+
+loop-again : tie.Need-loop-again Inv-loop μ-loop
+loop-again c = search needs
+
+returns : tie.Need-returns Inv-loop μ-loop
+returns c = search needs
+
+pub decipher-spec : {M : Type 1} → statement M
+decipher-spec =
+    tie.close
+    (tie.spec
+    Inv-loop
+    μ-loop
+    slice-aggregate-block
+    block-requires
+    expand-requires
+    slice-aggregate-block-2
+    block-requires-2
+    loop-holds
+    decipher-requires
+    add-i
+    loop-less
+    loop-again
+    returns)

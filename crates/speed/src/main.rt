@@ -1,0 +1,171 @@
+// Does an operation a given number of times, each time on the last one's result, and writes the last result in hexadecimal.
+// The arguments are pairs: the operation's name and the number of times. `bench/run` counts this program's instructions.
+//
+// Each operation starts from a published example, so that what one time gives is that example's result: FIPS 197 C.1 for
+// encipher and decipher, FIPS 197 A.1 for expand (the last round key), SP 800-38A F.2.1 and F.2.2 for the two of CBC (four
+// blocks), and NIST's short message of 256 bits for sha256.
+
+// The block that 32 hexadecimal digits say.
+fn block(digits: &[u8]) -> [u8; 16] {
+    let mut b = [0u8; 16];
+    rsp::hex(digits, 0, &mut b);
+    b
+}
+
+fn show(b: &[u8]) {
+    rsp::say_bytes(b);
+    rsp::say(b"\n");
+}
+
+fn show_block(b: [u8; 16]) {
+    show(&b);
+}
+
+fn encipher(times: usize) -> [u8; 16] {
+    let w = aes::expand(block(b"000102030405060708090a0b0c0d0e0f"));
+    let mut b = block(b"00112233445566778899aabbccddeeff");
+    let mut i = 0;
+    while i < times {
+        let next = aes::encipher(&w, b);
+        b = next;
+        i += 1;
+    }
+    b
+}
+
+fn decipher(times: usize) -> [u8; 16] {
+    let w = aes::expand(block(b"000102030405060708090a0b0c0d0e0f"));
+    let mut b = block(b"69c4e0d86a7b0430d8cdb78070b4c55a");
+    let mut i = 0;
+    while i < times {
+        let next = aes::decipher(&w, b);
+        b = next;
+        i += 1;
+    }
+    b
+}
+
+// The last round key, which is the next key to expand.
+fn expand(times: usize) -> [u8; 16] {
+    let mut k = block(b"2b7e151628aed2a6abf7158809cf4f3c");
+    let mut i = 0;
+    while i < times {
+        let w = aes::expand(k);
+        k = w[10];
+        i += 1;
+    }
+    k
+}
+
+fn digest(m: [u8; 32]) -> [u8; 32] {
+    sha256::digest(&m)
+}
+
+fn hash(message: [u8; 32], times: usize) -> [u8; 32] {
+    let mut d = message;
+    let mut i = 0;
+    while i < times {
+        let next = digest(d);
+        d = next;
+        i += 1;
+    }
+    d
+}
+
+fn show_hash(times: usize) {
+    let mut m = [0u8; 32];
+    rsp::hex(
+        b"09fc1accc230a205e4a208e64a8f204291f581a12756392da4b8c0cf5ef02b95",
+        0,
+        &mut m,
+    );
+    let d = hash(m, times);
+    show(&d);
+}
+
+// CBC on `text` in place. The sum is handed on from one time to the next.
+fn chain(text: &mut [u8], is_inverse: bool, times: usize) -> u32 {
+    let key = block(b"2b7e151628aed2a6abf7158809cf4f3c");
+    let start = block(b"000102030405060708090a0b0c0d0e0f");
+    let w = aes::expand(key);
+    let mut sum: u32 = 0;
+    let mut i = 0;
+    while i < times {
+        sum = chain_once(&key, &w, start, text, is_inverse, sum);
+        i += 1;
+    }
+    sum
+}
+
+fn chain_once(
+    key: &[u8; 16],
+    w: &[[u8; 16]; 11],
+    start: [u8; 16],
+    text: &mut [u8],
+    is_inverse: bool,
+    sum: u32,
+) -> u32 {
+    if is_inverse {
+        cbc::decipher(key, w, start, text, sum).sum
+    } else {
+        cbc::encipher(key, w, start, text, sum).sum
+    }
+}
+
+// `digits` are those of four blocks. The sum goes to standard error, so that it has to be made.
+fn show_chain(digits: &[u8], is_inverse: bool, times: usize) {
+    let mut text = [0u8; 64];
+    rsp::hex(digits, 0, &mut text);
+    let sum = chain(&mut text, is_inverse, times);
+    io::print_decimal(2, sum as u64);
+    show(&text);
+}
+
+fn operate(name: &[u8], times: usize) {
+    if times == rsp::NONE {
+        rsp::say(b"no number\n");
+    } else if check::same(name, b"encipher") {
+        show_block(encipher(times));
+    } else if check::same(name, b"decipher") {
+        show_block(decipher(times));
+    } else if check::same(name, b"expand") {
+        show_block(expand(times));
+    } else if check::same(name, b"sha256") {
+        show_hash(times);
+    } else if check::same(name, b"cbc-encipher") {
+        show_chain(
+            b"6bc1bee22e409f96e93d7e117393172aae2d8a571e03ac9c9eb76fac45af8e5130c81c46a35ce411e5fbc1191a0a52eff69f2445df4f9b17ad2b417be66c3710",
+            false,
+            times,
+        );
+    } else if check::same(name, b"cbc-decipher") {
+        show_chain(
+            b"7649abac8119b246cee98e9b12e9197d5086cb9b507219ee95db113a917678b273bed6b8e3c1743b7116e69e222295163ff1caa1681fac09120eca307586e1a7",
+            true,
+            times,
+        );
+    } else {
+        rsp::say(b"no such operation\n");
+    }
+}
+
+// The operation that argument i names, as often as argument j says.
+fn run(i: usize, j: usize) {
+    let mut name = [0u8; 16];
+    let mut digits = [0u8; 16];
+    let n = os::arg(i, &mut name);
+    let m = os::arg(j, &mut digits);
+    operate(&name[..n], rsp::decimal(&digits[..m], 0));
+}
+
+fn main() {
+    let count = os::arg_count();
+    let mut i = 1;
+    while i < count {
+        run(i, i + 1);
+        if count - i < 3 {
+            return;
+        }
+        i += 2;
+    }
+}
