@@ -1,9 +1,11 @@
 -- A byte is a number below 256, and a block is sixteen bytes (FIPS 197, section 3.2).
 use mathlib.Core.Path.{_≡_}
-use mathlib.Core.List.{List}
+use mathlib.Core.Bool.{Bool, true, false, _&&_}
+use mathlib.Core.List.{List, [], _∷_}
 use Prim.Native.Nat.{ℕ, _<_}
 use lib.ListN.{length, getD}
 use lib.Bits.{bitXor}
+use lib.Dec.{eqb}
 use Rattle.octets.specs.Lists.{table}
 
 -- each element is a byte
@@ -17,3 +19,10 @@ pub record Block (s : List ℕ) : Type 0 where
 -- the exclusive or of two blocks, byte by byte
 abbrev pub xorBlock : List ℕ → List ℕ → List ℕ
 xorBlock a b = table (λ i. bitXor (getD a i 0) (getD b i 0)) 16 0
+
+-- two lists of bytes are equal
+abbrev pub same : List ℕ → List ℕ → Bool
+same [] [] = true
+same [] (y ∷ ys) = false
+same (x ∷ xs) [] = false
+same (x ∷ xs) (y ∷ ys) = eqb x y && same xs ys

@@ -3,3 +3,4 @@ pub mod Lists
 pub mod Xor
 pub mod Tests
 pub mod Filled
+pub mod Same

@@ -2,7 +2,9 @@
 ghost use mathlib.Core.Path.{_≡_};
 ghost use Prim.Native.Nat.{_+_, _≤_};
 ghost use lib.ListN.{length};
-ghost use Rattle.octets.specs.Bytes.{xorBlock};
+ghost use mathlib.Core.Bool.{_&&_};
+ghost use lib.Dec.{eqb};
+ghost use Rattle.octets.specs.Bytes.{xorBlock, same};
 ghost use Rattle.octets.specs.Lists.{part, over};
 
 // The exclusive or of two blocks.
@@ -42,4 +44,23 @@ pub fn copy_at(d: &mut [u8], at: usize, s: &[u8])
         d[at + i] = s[i];
         i += 1;
     }
+}
+
+fn also(a: bool, x: u8, y: u8) -> bool
+    ensures { λ r. ⌜ r ≡ (a && eqb x y) ⌝ }
+{
+    if a { x == y } else { false }
+}
+
+// Whether two blocks are equal. Every byte is looked at.
+pub fn equal(a: [u8; 16], b: [u8; 16]) -> bool
+    ensures { λ r. ⌜ r ≡ same a b ⌝ }
+{
+    let mut r = true;
+    let mut i: usize = 0;
+    while i < 16 {
+        r = also(r, a[i], b[i]);
+        i += 1;
+    }
+    r
 }

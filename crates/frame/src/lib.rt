@@ -1,0 +1,102 @@
+//! What is checked of a call before its command is run.
+ghost use mathlib.Core.Path.{_≡_};
+ghost use mathlib.Core.Bool.{_&&_, cond, not};
+ghost use lib.ListN.{length, drop};
+ghost use lib.Dec.{eqb};
+ghost use Rattle.frame.specs.Frame.{frameOf, knownIns, whole, statusOf};
+ghost use Rattle.frame.specs.Declines.{noZero, verdict};
+
+// 9000 where the call goes on; a number, or a status of ISO/IEC 7816-4, where it is declined.
+pub struct Verdict {
+    pub number: u8,
+    pub status: u16,
+}
+
+fn no_zero(s: &[u8], from: usize) -> bool
+    ensures { λ r. ⌜ r ≡ noZero (drop from (now (s .entry))) ⌝ }
+{
+    let mut ok = true;
+    let mut i = from;
+    while i < s.len() {
+        ok = also(ok, s[i]);
+        i += 1;
+    }
+    ok
+}
+
+fn also(ok: bool, b: u8) -> bool
+    ensures { λ r. ⌜ r ≡ (not (eqb b 0) && ok) ⌝ }
+{
+    if b == 0 { false } else { ok }
+}
+
+fn known_ins(i: u8) -> bool
+    ensures { λ r. ⌜ r ≡ knownIns i ⌝ }
+{
+    if i == 0x87 { true } else { i == 0x86 }
+}
+
+fn rest_status(cmd: &[u8]) -> u16
+    ensures { λ r. ⌜ r ≡ cond (whole (length (now (cmd .entry))) (frameOf (now (cmd .entry)))) 0x9000 0x6700 ⌝ }
+{
+    let n = cmd.len();
+    if n < 7 {
+        return 0x6700;
+    }
+    let lc = cmd[4] as usize;
+    if n != lc + 6 {
+        return 0x6700;
+    }
+    if cmd[n - 1] != 0 {
+        return 0x6700;
+    }
+    0x9000
+}
+
+pub fn status(cmd: &[u8]) -> u16
+    ensures { λ r. ⌜ r ≡ statusOf (length (now (cmd .entry))) (frameOf (now (cmd .entry))) ⌝ }
+{
+    if cmd.len() < 4 {
+        return 0x6700;
+    }
+    if cmd[0] != 0 {
+        return 0x6E00;
+    }
+    if !known_ins(cmd[1]) {
+        return 0x6D00;
+    }
+    if cmd[2] != 0 {
+        return 0x6A86;
+    }
+    if cmd[3] != 0 {
+        return 0x6A86;
+    }
+    rest_status(cmd)
+}
+
+pub fn check(cmd: &[u8], fresh: &[u8], room: usize) -> Verdict
+    ensures { λ r. ⌜ r ≡ verdict (length (now (cmd .entry))) (frameOf (now (cmd .entry))) (now (fresh .entry)) room ⌝ }
+{
+    if fresh.len() != 253 {
+        return Verdict {
+            number: 8,
+            status: 0,
+        };
+    }
+    if !no_zero(fresh, 50) {
+        return Verdict {
+            number: 9,
+            status: 0,
+        };
+    }
+    if room < 256 {
+        return Verdict {
+            number: 10,
+            status: 0,
+        };
+    }
+    Verdict {
+        number: 0,
+        status: status(cmd),
+    }
+}

@@ -1,0 +1,41 @@
+-- `list::walk` meets its contract. The loop's invariant: p is where j entries end. The measure is what is left of n. Assumes nothing.
+use mathlib.Core.Path.{_≡_, refl, ap, _∙_}
+use Prim.Native.Nat.{_≤_, _-_}
+use native.Mathlib.Omega.{arith}
+use Rattle.list.specs.Ber.{walked}
+use Rattle.list.proofs.Within.{walk-turn}
+use borrow.Author.Needs.{needs}
+use Rattle.list.proofs.walk.Statement.{statement}
+use Rattle.list.proofs.walk.Tie as tie
+
+abbrev Inv-loop : tie.InvT-loop
+Inv-loop d at n p₀ j₀ p j = (j ≤ n) × (p ≡ walked d at j)
+
+abbrev μ-loop : tie.MeasureT-loop
+μ-loop d at n p₀ j₀ p j = n - j
+
+loop-holds : tie.Need-loop-holds Inv-loop μ-loop
+unfolding walked
+loop-holds c = (search needs, refl)
+
+entry-at-requires : tie.Need-entry-at-requires Inv-loop μ-loop
+entry-at-requires c κs = search needs
+
+add-j : tie.Need-add-j Inv-loop μ-loop
+add-j c = search needs
+
+loop-less : tie.Need-loop-less Inv-loop μ-loop
+loop-less c = search needs
+
+loop-again : tie.Need-loop-again Inv-loop μ-loop
+loop-again c = (search needs, walk-turn _ _ _ _ (c .entry-at .result) (c .before .before .loop .inv .1) (c .entry-at .ensures))
+
+returns : tie.Need-returns Inv-loop μ-loop
+returns c =
+    let e : c .before .loop .j ≡ c .before .before .before .args .n = omega arith in
+    c .before .loop .inv .1 ∙ ap (walked (c .before .before .before .args .d .now) (c .before .before .before .args .at)) e
+
+pub walk-spec : {M : Type 1} → statement M
+walk-spec =
+    tie.close
+    (tie.spec Inv-loop μ-loop loop-holds entry-at-requires add-j loop-less loop-again returns)

@@ -1,0 +1,4 @@
+pub mod Ber
+pub mod Laws
+pub mod Encoding
+pub mod Meaning

@@ -1,0 +1,111 @@
+-- Document 01, "The card", of a load, and of "When an operation declines", the faults of a load.
+use mathlib.Core.Bool.{Bool, true, false, cond, _||_, not}
+use mathlib.Core.List.{List, [], _∷_, _++_, map}
+use Prim.Native.Nat.{ℕ, _+_, _-_}
+use lib.Dec.{eqb, ltb}
+use lib.ListN.{length, take, replicate}
+use Rattle.padding.specs.Method2.{blocksFor}
+use Rattle.plaid_types.specs.Cards.{noSet, noMode, noSession}
+use Rattle.plaid_types.specs.declared.KeySet.{KeySet}
+use Rattle.plaid_types.specs.declared.KeySetSlot.{KeySetSlot}
+use Rattle.plaid_types.specs.declared.Mode.{Mode}
+use Rattle.plaid_types.specs.declared.ModeSlot.{ModeSlot}
+use Rattle.plaid_types.specs.declared.Card.{Card}
+use Rattle.load.specs.declared.Loaded.{Loaded}
+
+-- whether p holds of some element
+abbrev pub some : {A : Type 0} → (A → Bool) → List A → Bool
+some p [] = false
+some p (x ∷ xs) = p x || some p xs
+
+-- "1 to 8 key sets", "1 to 16 modes": a count that is not from 1 to the most
+abbrev pub miscounted : ℕ → ℕ → Bool
+miscounted most n = eqb n 0 || ltb most n
+
+-- "repeated KeySetID", "repeated OpModeID": some number stands again behind itself
+abbrev pub repeated : List ℕ → Bool
+repeated [] = false
+repeated (x ∷ xs) = some (eqb x) xs || repeated xs
+
+abbrev pub setIds : List KeySet → List ℕ
+setIds = map (λ (k : KeySet). k .id .0)
+
+abbrev pub modeIds : List Mode → List ℕ
+modeIds = map (λ (m : Mode). m .id .0)
+
+-- "a set with the shill handle"
+abbrev pub withHandle : ℕ → List KeySet → Bool
+withHandle handle = some (λ (k : KeySet). eqb (k .handle) handle)
+
+-- "A record is 1 to 64 bytes"; "a record empty, over 64 or outside" an area of so many bytes
+abbrev pub badRecord : ℕ → Mode → Bool
+badRecord area m = eqb (m .len) 0 || (ltb 64 (m .len) || ltb area (m .start + m .len))
+
+-- "Reply size B = floor((record length + 16)/16) + 1": the blocks that the record takes with 16 more bytes
+abbrev pub replySize : ℕ → ℕ
+replySize len = blocksFor (len + 16)
+
+-- that of the first of the modes
+abbrev pub firstSize : List Mode → ℕ
+firstSize [] = 0
+firstSize (m ∷ ms) = replySize (m .len)
+
+-- "unequal B": some mode's is not that of the first
+abbrev pub unequal : List Mode → Bool
+unequal ms = some (λ (m : Mode). not (eqb (replySize (m .len)) (firstSize ms))) ms
+
+-- "4 count of modes; 5 repeated OpModeID; 6 area over 1,024, or a record empty, over 64 or outside it; 7 unequal B", of the first m of `modes`
+-- and an area of so many bytes. 0 where none applies
+unfoldable pub modesRefusal : List Mode → ℕ → ℕ → ℕ
+modesRefusal modes m area =
+    cond (miscounted 16 m) 4
+    (cond (repeated (modeIds (take m modes))) 5
+    (cond (ltb 1024 area || some (badRecord area) (take m modes)) 6
+    (cond (unequal (take m modes)) 7
+    0)))
+
+-- "1 count of key sets; 2 repeated KeySetID; 3 a set with the shill handle", of the first n of `sets`, then those above. "Where several apply, the
+-- first in the order written is given"
+unfoldable pub refusal : List KeySet → ℕ → List Mode → ℕ → ℕ → ℕ → ℕ
+refusal sets n modes m area handle =
+    cond (miscounted 8 n) 1
+    (cond (repeated (setIds (take n sets))) 2
+    (cond (withHandle handle (take n sets)) 3
+    (modesRefusal modes m area)))
+
+-- "Key sets and modes fill their slots from the first on, in the order given; the rest are empty": l, and d behind it up to n. Shut: with a
+-- numeral for n the library's own replicate computes to as many elements
+unfoldable pub filled : {A : Type 0} → ℕ → A → List A → List A
+filled n d l = l ++ replicate (n - length l) d
+
+abbrev pub setSlot : KeySet → KeySetSlot
+setSlot k = record { held = true; id = k .id; handle = k .handle; «fa_key» = k .«fa_key» }
+
+abbrev pub modeSlot : Mode → ModeSlot
+modeSlot m = record { held = true; id = m .id; start = m .start; len = m .len }
+
+-- "they and the record area, at most 1,024 bytes, are copied into the card"; "DivData (16 bytes), a shill AES key and a shill RSA handle"; "A new
+-- card has" no session. The area is followed by zeros
+unfoldable pub loadedCard : List KeySet → List Mode → List ℕ → List ℕ → List ℕ → ℕ → Card
+loadedCard sets modes area div key handle =
+    record {
+      sets = filled 8 noSet (map setSlot sets);
+      modes = filled 16 noMode (map modeSlot modes);
+      area = filled 1024 0 area;
+      «div_data» = div;
+      «shill_key» = key;
+      «shill_handle» = handle;
+      «reply_size» = firstSize modes;
+      session = noSession;
+    }
+
+-- what stands in the place of a card where a load is refused: all slots empty, all numbers 0
+unfoldable pub blankCard : Card
+blankCard = loadedCard [] [] [] (replicate 16 0) (replicate 16 0) 0
+
+-- "No card results" where a load is refused; else the number is 0
+unfoldable pub loaded : List KeySet → ℕ → List Mode → ℕ → List ℕ → List ℕ → List ℕ → ℕ → Loaded
+loaded sets n modes m area div key handle =
+    cond (eqb (refusal sets n modes m (length area) handle) 0)
+    (record { number = 0; card = loadedCard (take n sets) (take m modes) area div key handle })
+    (record { number = refusal sets n modes m (length area) handle; card = blankCard })

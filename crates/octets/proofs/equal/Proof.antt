@@ -1,0 +1,73 @@
+-- `octets::equal` meets its contract: r, and what the bytes from i on say, is what all say. Assumes nothing.
+use Prim.Native.Nat.{ℕ, _+_, _-_, _≤_}
+use mathlib.Core.Path.{_≡_, refl, sym, ap, _∙_}
+use mathlib.Core.Bool.{Bool, true, _&&_, and-assoc}
+use lib.ListN.{length, getD, drop}
+use native.Mathlib.Omega.{arith}
+use Rattle.octets.specs.Bytes.{same}
+use Rattle.octets.specs.Same.{same-drop, same-done}
+use borrow.Author.Needs.{needs}
+use Rattle.octets.proofs.equal.Statement.{statement}
+use Rattle.octets.proofs.equal.Tie as tie
+
+abbrev Inv-loop : tie.InvT-loop
+Inv-loop a b r₀ i₀ r i = (i ≤ 16) × ((r && same (drop i a) (drop i b)) ≡ same a b)
+
+abbrev μ-loop : tie.MeasureT-loop
+μ-loop a b r₀ i₀ r i = 16 - i
+
+loop-holds : tie.Need-loop-holds Inv-loop μ-loop
+loop-holds c = (omega arith, refl)
+
+array-read-also : tie.Need-array-read-also Inv-loop μ-loop
+array-read-also c = search needs
+
+array-read-also-2 : tie.Need-array-read-also-2 Inv-loop μ-loop
+array-read-also-2 c = search needs
+
+also-requires : tie.Need-also-requires Inv-loop μ-loop
+also-requires c κs = search needs
+
+add-i : tie.Need-add-i Inv-loop μ-loop
+add-i c = search needs
+
+loop-less : tie.Need-loop-less Inv-loop μ-loop
+loop-less c = search needs
+
+loop-again : tie.Need-loop-again Inv-loop μ-loop
+loop-again c =
+    let l = c .before .before .loop in
+    let a = c .before .before .before .args .t1 in
+    let b = c .before .before .before .args .t2 in
+    let la : length a ≡ 16 = search needs in
+    let lb : length b ≡ 16 = search needs in (
+      omega arith,
+      ap (λ (x : Bool). x && same (drop (l .i + 1) a) (drop (l .i + 1) b)) (c .also .ensures)
+          ∙ and-assoc (l .r) (_) (same (drop (l .i + 1) a) (drop (l .i + 1) b))
+          ∙ ap (λ (x : Bool). l .r && x) (sym (same-drop a b (l .i) (omega arith) (omega arith)))
+          ∙ l .inv .1,
+    )
+
+returns : tie.Need-returns Inv-loop μ-loop
+returns c =
+    let l = c .before .loop in
+    let a = c .before .before .args .t1 in
+    let b = c .before .before .args .t2 in
+    let la : length a ≡ 16 = search needs in
+    let lb : length b ≡ 16 = search needs in
+    sym (same-done (l .r) a b (l .i) (omega arith) (omega arith)) ∙ l .inv .1
+
+pub equal-spec : {M : Type 1} → statement M
+equal-spec =
+    tie.close
+    (tie.spec
+    Inv-loop
+    μ-loop
+    loop-holds
+    array-read-also
+    array-read-also-2
+    also-requires
+    add-i
+    loop-less
+    loop-again
+    returns)

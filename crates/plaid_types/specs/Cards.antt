@@ -1,0 +1,45 @@
+-- Document 01, "The card": the session, and what a command that is not declined means.
+use mathlib.Core.Bool.{false}
+use mathlib.Core.List.{List, []}
+use Prim.Native.Nat.{ℕ}
+use lib.ListN.{replicate}
+use Rattle.work.specs.Steps.{Step}
+use Rattle.plaid_types.specs.declared.KeySetId.{KeySetId}
+use Rattle.plaid_types.specs.declared.OpModeId.{OpModeId}
+use Rattle.plaid_types.specs.declared.KeySetSlot.{KeySetSlot}
+use Rattle.plaid_types.specs.declared.ModeSlot.{ModeSlot}
+use Rattle.plaid_types.specs.declared.Session.{Session}
+use Rattle.plaid_types.specs.declared.Card.{Card}
+
+-- "State: no session, or an open one with KeySetID and RND1. A new card has none."
+abbrev pub noSession : Session
+noSession = record { opened = false; id = record { 0 = 0 }; rnd1 = replicate 16 0 }
+
+-- an empty slot
+abbrev pub noSet : KeySetSlot
+noSet = record { held = false; id = record { 0 = 0 }; handle = 0; «fa_key» = replicate 16 0 }
+
+abbrev pub noMode : ModeSlot
+noMode = record { held = false; id = record { 0 = 0 }; start = 0; len = 0 }
+
+-- "Beside what its load gave, and B, a card keeps only this state": a command changes the session alone
+abbrev pub withSession : Card → Session → Card
+withSession c s =
+    record {
+      sets = c .sets;
+      modes = c .modes;
+      area = c .area;
+      «div_data» = c .«div_data»;
+      «shill_key» = c .«shill_key»;
+      «shill_handle» = c .«shill_handle»;
+      «reply_size» = c .«reply_size»;
+      session = s;
+    }
+
+-- what a command that is not declined means: the key handle, the answer bytes, the steps in order, and the session afterwards.
+-- Counts, length and work sum all come from it (`told` of the crate `card`)
+pub record Reply : Type 0 where
+  pub handle : ℕ
+  pub bytes : List ℕ
+  pub steps : List Step
+  pub session : Session

@@ -1,0 +1,42 @@
+-- Document 01, "Work sum": what each kind of step has as key, input and output. (A cipher step's are in the crate cbc.)
+use mathlib.Core.Bool.{Bool, cond, _&&_}
+use mathlib.Core.List.{List, [], _∷_, _++_, flatten}
+use Prim.Native.Nat.{ℕ, suc, _/_, _%_}
+use lib.Dec.{eqb}
+use Rattle.octets.specs.Lists.{table}
+use Rattle.aes.specs.KeyExpansion.{roundKeys}
+use Rattle.sha256.specs.Parsing.{blocks, blockAt}
+use Rattle.sha256.specs.Hash.{stateAfter, digestBytes}
+use Rattle.work.specs.Steps.{Step, comparison, expansion, hashBlock}
+
+-- "An expansion has the key, no input, and the round keys as output."
+abbrev pub expansionStep : List ℕ → Step
+expansionStep k = record { kind = expansion; key = k; input = []; output = flatten (roundKeys 4 k) }
+
+-- "A hash block has no key, its 64 bytes as input, and the 32 bytes of state after it as output." The block that has i before it
+abbrev pub hashStep : List ℕ → ℕ → Step
+hashStep m i = record { kind = hashBlock; key = []; input = blockAt m i; output = digestBytes (stateAfter m (suc i)) }
+
+-- the hash of a message: one step for each block of the padded message
+unfoldable pub hashSteps : List ℕ → List Step
+hashSteps m = table (hashStep m) (blocks m) 0
+
+-- "its input is the place's or text's value and then the slot's, no bytes for one that is missing or empty"
+abbrev pub shown : Bool → ℕ → List ℕ
+shown present v = cond present (v / 256 ∷ v % 256 ∷ []) []
+
+-- a missing place and an empty slot "never match"
+abbrev pub matched : Bool → ℕ → Bool → ℕ → Bool
+matched present v held w = present && (held && eqb v w)
+
+-- "its output is 1 for a match, else 0"
+abbrev pub bitOf : Bool → ℕ
+bitOf hit = cond hit 1 0
+
+-- "A comparison has no key"
+abbrev pub comparisonStep : Bool → ℕ → Bool → ℕ → Step
+comparisonStep present v held w = record { kind = comparison; key = []; input = shown present v ++ shown held w; output = bitOf (matched present v held w) ∷ [] }
+
+-- the first match so far: `first` where there is one (it is below n), else i where i matches, else n
+abbrev pub kept : ℕ → ℕ → ℕ → Bool → ℕ
+kept n first i hit = cond (eqb first n) (cond hit i n) first
