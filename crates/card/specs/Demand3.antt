@@ -1,0 +1,264 @@
+-- Demand 3, for every list of commands: at each place the formulas, the work sum of the steps that load, session and call give, and
+-- what two lists on two cards have alike. Assumes nothing.
+use mathlib.Core.Path.{_≡_, refl, sym, ap, _∙_}
+use mathlib.Core.Bool.{Bool, true, false, cond, _&&_, not}
+use mathlib.Core.List.{List, [], _∷_, _++_, map}
+use Prim.Native.Nat.{ℕ, suc, _*_, _/_, _≤_}
+use native.Mathlib.Omega.{arith}
+use lib.Dec.{eqb}
+use lib.ListN.{length, getD, replicate}
+use lib.Seq.{getD-at}
+use borrow.Author.Tests.{eqb-true}
+use Rattle.work.specs.Steps.{comparison, decipherment, encipherment, expansion, hashBlock, counted, workSum}
+use Rattle.frame.specs.Frame.{frameOf, insOf, lcOf, initialIns, dataOf}
+use Rattle.frame.specs.Declines.{verdict}
+use Rattle.frame.specs.Laws.{Passed, passed, data-long}
+use Rattle.frame.specs.declared.Verdict.{Verdict}
+use Rattle.plaid_types.specs.Cards.{noSet}
+use Rattle.initial.specs.Initial.{initialSteps, slotOf, acceptsInitial, acceptedInitial, refusedInitial, initialReply, blockOf}
+use Rattle.initial.specs.Laws.{initial-counted, initial-length, initial-rnd1}
+use Rattle.octets.specs.Lists.{part, over}
+use Rattle.aes.specs.Aes.{aes}
+use Rattle.cbc.specs.Cbc.{encrypted}
+use Rattle.final_command.specs.Final.{zeros, sizeOf, acceptsFinal, replyKey, replyText, replyBuffer, finalBytes, finalReply}
+use Rattle.final_command.specs.Laws.{final-length, final-comparisons, final-decipherments, final-encipherments, final-expansions, final-hash-blocks, size-loaded, rnd1-length}
+use Rattle.plaid_types.specs.Cards.{noSession, withSession, Reply}
+use Rattle.plaid_types.specs.declared.Session.{Session}
+use Rattle.plaid_types.specs.declared.Card.{Card}
+use Rattle.plaid_types.specs.declared.Outcome.{Outcome}
+use Rattle.card.specs.Command.{replyTo, told, declined, verdictOn, outcome, answerBytes}
+use Rattle.card.specs.Lists.{Call, outcomeOf, bytesOf, run, isDeclined, isInitial, nextSession, sessionAfter, stepsOf, Shape, shapeOf, initialShape, finalShape, declineShape, formulas, formulasOf, Alike, AllAlike, none, more, Agree, accepted, SameAnswer, Indistinct}
+
+-- what the theorems ask of a card: what a load and every call leave true of it
+pub record Sound (c : Card) : Type 0 where
+  pub sets : length (c .sets) ≡ 8
+  pub modes : length (c .modes) ≡ 16
+  pub div : length (c .«div_data») ≡ 16
+  pub rnd1 : length (c .session .rnd1) ≡ 16
+  pub size : c .«reply_size» ≤ 6
+
+initial-shape : (c : Card) (cmd fresh : List ℕ) → Sound c → length fresh ≡ 253 → length (dataOf cmd) ≡ lcOf (frameOf cmd) →
+    shapeOf (told (initialReply c (dataOf cmd) fresh)) ≡ initialShape (lcOf (frameOf cmd))
+initial-shape c cmd fresh s lf ld =
+    let d : List ℕ = dataOf cmd in
+    rw (initial-counted comparison c d fresh (s .sets), initial-counted decipherment c d fresh (s .sets), initial-counted encipherment c d fresh (s .sets),
+      initial-counted expansion c d fresh (s .sets), initial-counted hashBlock c d fresh (s .sets), initial-length c d fresh (s .div) lf, ld)
+    (shapes (lcOf (frameOf cmd)))
+  where
+    shapes : (lc : ℕ) → _≡_ {A = Shape} (record { number = 0; status = 0x9000; comparisons = 8 * (lc / 4) * 1; decipherments = 8 * (lc / 4) * 0; encipherments = 8 * (lc / 4) * 0; expansions = 8 * (lc / 4) * 0; hashBlocks = 8 * (lc / 4) * 0; size = 256 }) (initialShape lc)
+    shapes lc =
+        let one : 8 * (lc / 4) * 1 ≡ 8 * (lc / 4) = omega arith in
+        let no : 8 * (lc / 4) * 0 ≡ 0 = omega arith in
+        rw (one, no)
+
+final-shape : (c : Card) (cmd fresh : List ℕ) → Sound c → length (dataOf cmd) ≡ lcOf (frameOf cmd) →
+    shapeOf (told (finalReply c (dataOf cmd) fresh)) ≡ finalShape (c .«reply_size») (lcOf (frameOf cmd))
+final-shape c cmd fresh s ld =
+    let d : List ℕ = dataOf cmd in
+    let lr = rnd1-length c (s .rnd1) in
+    rw (final-comparisons c d fresh (s .modes) lr, final-decipherments c d fresh (s .modes) lr, final-encipherments c d fresh (s .modes) lr,
+      final-expansions c d fresh (s .modes) lr, final-hash-blocks c d fresh (s .modes) lr, final-length c d fresh, size-loaded c (s .size), ld)
+
+-- one call
+module _ (c : Card) (cmd fresh : List ℕ) (room : ℕ) where
+  ins-shape : (t : Bool) → Sound c → length fresh ≡ 253 → length (dataOf cmd) ≡ lcOf (frameOf cmd) →
+      shapeOf (told (cond t (initialReply c (dataOf cmd) fresh) (finalReply c (dataOf cmd) fresh))) ≡ cond t (initialShape (lcOf (frameOf cmd))) (finalShape (c .«reply_size») (lcOf (frameOf cmd)))
+  ins-shape true s lf ld = initial-shape c cmd fresh s lf ld
+  ins-shape false s lf ld = final-shape c cmd fresh s ld
+
+  status-shape : (t : Bool) → eqb (verdictOn cmd fresh room .status) 0x9000 ≡ t → Sound c →
+      shapeOf (cond {A = Outcome} t (record { answer = told (replyTo c cmd fresh); card = withSession c (replyTo c cmd fresh .session) }) (record { answer = declined (verdictOn cmd fresh room); card = c }) .answer)
+      ≡ cond t (cond (eqb (insOf (frameOf cmd)) initialIns) (initialShape (lcOf (frameOf cmd))) (finalShape (c .«reply_size») (lcOf (frameOf cmd)))) (declineShape (verdictOn cmd fresh room))
+  unfolding replyTo
+  status-shape true e s =
+      let p = passed (length cmd) (frameOf cmd) fresh room (eqb-true _ _ e) in
+      ins-shape (eqb (insOf (frameOf cmd)) initialIns) s (p .fresh-long) (data-long cmd (p .frame))
+  status-shape false e s = refl
+
+  one-shape : Sound c → shapeOf (outcome c cmd fresh room .answer) ≡ formulas (c .«reply_size») (length cmd) (frameOf cmd) fresh room
+  unfolding outcome formulas
+  one-shape s = status-shape (eqb (verdictOn cmd fresh room .status) 0x9000) refl s
+
+  card-cases : (t : Bool) →
+      cond {A = Outcome} t (record { answer = told (replyTo c cmd fresh); card = withSession c (replyTo c cmd fresh .session) }) (record { answer = declined (verdictOn cmd fresh room); card = c }) .card
+      ≡ withSession c (cond t (replyTo c cmd fresh .session) (c .session))
+  card-cases true = refl
+  card-cases false = refl
+
+  -- the next card differs in its session alone
+  card-kept : outcome c cmd fresh room .card ≡ withSession c (cond (eqb (verdictOn cmd fresh room .status) 0x9000) (replyTo c cmd fresh .session) (c .session))
+  unfolding outcome
+  card-kept = card-cases (eqb (verdictOn cmd fresh room .status) 0x9000)
+
+  reply-rnd1 : (t : Bool) → length fresh ≡ 253 → length (cond t (initialReply c (dataOf cmd) fresh) (finalReply c (dataOf cmd) fresh) .session .rnd1) ≡ 16
+  unfolding finalReply
+  reply-rnd1 true lf = initial-rnd1 c (dataOf cmd) fresh lf
+  reply-rnd1 false lf = refl
+
+  next-rnd1 : (t : Bool) → eqb (verdictOn cmd fresh room .status) 0x9000 ≡ t → length (c .session .rnd1) ≡ 16 → length (cond t (replyTo c cmd fresh .session) (c .session) .rnd1) ≡ 16
+  unfolding replyTo
+  next-rnd1 true e h = reply-rnd1 (eqb (insOf (frameOf cmd)) initialIns) (passed (length cmd) (frameOf cmd) fresh room (eqb-true _ _ e) .fresh-long)
+  next-rnd1 false e h = h
+
+  sound-kept : Sound c → Sound (outcome c cmd fresh room .card)
+  sound-kept s =
+      rw card-kept
+      (record { sets = s .sets; modes = s .modes; div = s .div; rnd1 = next-rnd1 (eqb (verdictOn cmd fresh room .status) 0x9000) refl (s .rnd1); size = s .size })
+
+-- DEMAND 3, the formulas: a list on a card that is sound gives at each place what the formulas of frame, length and reply size say
+pub list-formulas : (xs : List Call) (c : Card) → Sound c → map (λ o. shapeOf (o .answer)) (run c xs) ≡ map (formulasOf (c .«reply_size»)) xs
+unfolding run
+list-formulas [] c s = refl
+list-formulas (x ∷ xs) c s =
+    let k : Card = outcomeOf c x .card in
+    let z : k .«reply_size» ≡ c .«reply_size» = ap (λ (e : Card). e .«reply_size») (card-kept c (x .command) (x .fresh) (x .room)) in
+    rw (one-shape c (x .command) (x .fresh) (x .room) s, list-formulas xs k (sound-kept c (x .command) (x .fresh) (x .room) s), z)
+
+-- the session of a reply, from the load and the call
+session-initial : (c : Card) (s : Session) (d fresh : List ℕ) (t : Bool) → acceptsInitial c d ≡ t →
+    initialReply (withSession c s) d fresh .session ≡ cond t (initialReply c d fresh .session) noSession
+unfolding initialReply slotOf initialSteps
+session-initial c s d fresh true e = rw e
+session-initial c s d fresh false e = rw e
+
+both-cond : (a b : Bool) (s : Session) → cond a (cond b s noSession) noSession ≡ cond (a && b) s noSession
+both-cond true b s = refl
+both-cond false b s = refl
+
+module _ (c : Card) (s : Session) (x : Call) where
+  d : List ℕ
+  d = dataOf (x .command)
+
+  ins-session : (t : Bool) → cond t (initialReply (withSession c s) d (x .fresh)) (finalReply (withSession c s) d (x .fresh)) .session
+      ≡ cond t (cond (acceptsInitial c d) (initialReply c d (x .fresh) .session) noSession) noSession
+  unfolding finalReply
+  ins-session true = session-initial c s d (x .fresh) (acceptsInitial c d) refl
+  ins-session false = refl
+
+  next-cases : (t : Bool) →
+      cond t (replyTo (withSession c s) (x .command) (x .fresh) .session) s ≡ cond (not t) s (cond (isInitial x && acceptsInitial c d) (initialReply c d (x .fresh) .session) noSession)
+  unfolding replyTo d
+  next-cases true = ins-session (isInitial x) ∙ both-cond (isInitial x) (acceptsInitial c d) (initialReply c d (x .fresh) .session)
+  next-cases false = refl
+
+  -- a call leaves the session that load, session and call give
+  next-card : outcomeOf (withSession c s) x .card ≡ withSession c (nextSession c s x)
+  unfolding nextSession d
+  next-card =
+      card-kept (withSession c s) (x .command) (x .fresh) (x .room)
+      ∙ ap (withSession c) (next-cases (eqb (verdictOn (x .command) (x .fresh) (x .room) .status) 0x9000))
+
+  sum-cases : (t : Bool) →
+      cond {A = Outcome} t (record { answer = told (replyTo (withSession c s) (x .command) (x .fresh)); card = withSession (withSession c s) (replyTo (withSession c s) (x .command) (x .fresh) .session) })
+        (record { answer = declined (verdictOn (x .command) (x .fresh) (x .room)); card = withSession c s }) .answer .sum
+      ≡ workSum (cond (not t) [] (replyTo (withSession c s) (x .command) (x .fresh) .steps))
+  sum-cases true = refl
+  sum-cases false = refl
+
+  -- DEMAND 3, the work sum: that of the steps that load, session and call give
+  pub call-sum : outcomeOf (withSession c s) x .answer .sum ≡ workSum (stepsOf c s x)
+  unfolding outcome stepsOf
+  call-sum = sum-cases (eqb (verdictOn (x .command) (x .fresh) (x .room) .status) 0x9000)
+
+-- each place of a list: the calls behind xs run on the card with the session after xs
+pub run-append : (c : Card) (s : Session) (xs ys : List Call) → run (withSession c s) (xs ++ ys) ≡ run (withSession c s) xs ++ run (withSession c (sessionAfter c s xs)) ys
+unfolding run sessionAfter
+run-append c s [] ys = refl
+run-append c s (x ∷ xs) ys =
+    ap (λ (l : List Outcome). outcomeOf (withSession c s) x ∷ l)
+    (ap (λ (k : Card). run k (xs ++ ys)) (next-card c s x)
+    ∙ run-append c (nextSession c s x) xs ys
+    ∙ ap (λ (k : Card). run k xs ++ run (withSession c (sessionAfter c (nextSession c s x) xs)) ys) (sym (next-card c s x)))
+
+length-run : (c : Card) (xs : List Call) → length (run c xs) ≡ length xs
+unfolding run
+length-run c [] = refl
+length-run c (x ∷ xs) = ap suc (length-run (outcomeOf c x .card) xs)
+
+-- DEMAND 3, a place: the outcome of the call x behind the calls xs is that of the loaded card with the session that follows from load and xs
+pub place : (c : Card) (xs ys : List Call) (x : Call) (o : Outcome) → c .session ≡ noSession →
+    getD (run c (xs ++ (x ∷ ys))) (length xs) o ≡ outcomeOf (withSession c (sessionAfter c noSession xs)) x
+unfolding run
+place c xs ys x o e =
+    ap (λ (s : Session). getD (run (withSession c s) (xs ++ (x ∷ ys))) (length xs) o) e
+    ∙ ap (λ (l : List Outcome). getD l (length xs) o) (run-append c noSession xs (x ∷ ys))
+    ∙ getD-at (run (withSession c noSession) xs) (outcomeOf (withSession c (sessionAfter c noSession xs)) x) (run (outcomeOf (withSession c (sessionAfter c noSession xs)) x .card) ys) o (length xs)
+      (length-run (withSession c noSession) xs)
+
+-- two lists that agree
+formulas-alike : (b : ℕ) {x y : Call} → Alike x y → formulasOf b x ≡ formulasOf b y
+formulas-alike b {x} {y} a = rw (a .frames, a .lengths, a .fresh, a .rooms)
+
+all-alike : (b : ℕ) {xs ys : List Call} → AllAlike xs ys → map (formulasOf b) xs ≡ map (formulasOf b) ys
+all-alike b none = refl
+all-alike b (more {x} {y} a r) = rw (formulas-alike b a, all-alike b r)
+
+-- DEMAND 3, two lists on two cards: numbers, statuses, counts and lengths are equal at each place
+pub lists-alike : {xs ys : List Call} (c e : Card) → Sound c → Sound e → Agree c e → AllAlike xs ys → map (λ o. shapeOf (o .answer)) (run c xs) ≡ map (λ o. shapeOf (o .answer)) (run e ys)
+lists-alike {xs} {ys} c e sc se g a =
+    list-formulas xs c sc ∙ ap (λ (b : ℕ). map (formulasOf b) xs) (g .size) ∙ all-alike (e .«reply_size») a ∙ sym (list-formulas ys e se)
+
+-- what a refusal answers, of shill keys, reply size and fresh bytes alone
+refusedFinal : List ℕ → ℕ → List ℕ → List ℕ
+refusedFinal key b fresh = encrypted (aes 4 key) zeros b (over (replicate 96 0) 0 (part fresh 0 (16 * b)))
+
+final-refused : (c : Card) (d fresh : List ℕ) → acceptsFinal c d ≡ false → finalReply c d fresh .bytes ≡ refusedFinal (c .«shill_key») (sizeOf c) fresh
+unfolding finalReply finalBytes replyKey replyBuffer replyText refusedFinal
+final-refused c d fresh e = rw e
+
+initial-refused : (c : Card) (d fresh : List ℕ) → acceptsInitial c d ≡ false → initialReply c d fresh ≡ refusedInitial c d fresh
+unfolding initialReply
+initial-refused c d fresh e = rw e
+
+refusedBytes : Bool → List ℕ → ℕ → List ℕ → List ℕ
+refusedBytes t key b fresh = cond t (blockOf fresh (part fresh 0 50)) (refusedFinal key b fresh)
+
+ins-refused : (c : Card) (d fresh : List ℕ) (t : Bool) → cond t (acceptsInitial c d) (acceptsFinal c d) ≡ false →
+    (cond t (initialReply c d fresh) (finalReply c d fresh) .bytes ≡ refusedBytes t (c .«shill_key») (sizeOf c) fresh)
+    × (cond t (initialReply c d fresh) (finalReply c d fresh) .handle ≡ cond t (c .«shill_handle») 0)
+unfolding refusedBytes finalReply
+ins-refused c d fresh true e = (ap (λ (r : Reply). r .bytes) (initial-refused c d fresh e), ap (λ (r : Reply). r .handle) (initial-refused c d fresh e))
+ins-refused c d fresh false e = (final-refused c d fresh e, refl)
+
+-- the answer bytes and the handle of a call that is not accepted
+handle-cases : (c : Card) (r : Reply) (v : Verdict) (t : Bool) →
+    cond {A = Outcome} t (record { answer = told r; card = withSession c (r .session) }) (record { answer = declined v; card = c }) .answer .handle ≡ cond t (r .handle) 0
+handle-cases c r v true = refl
+handle-cases c r v false = refl
+
+module _ (c : Card) (x : Call) where
+  ok : Bool
+  ok = eqb (verdictOn (x .command) (x .fresh) (x .room) .status) 0x9000
+
+  bytes-cases : (t : Bool) → (not (not t) && cond (isInitial x) (acceptsInitial c (dataOf (x .command))) (acceptsFinal c (dataOf (x .command)))) ≡ false →
+      (cond t (replyTo c (x .command) (x .fresh) .bytes) [] ≡ cond t (refusedBytes (isInitial x) (c .«shill_key») (sizeOf c) (x .fresh)) [])
+      × (cond t (replyTo c (x .command) (x .fresh) .handle) 0 ≡ cond t (cond (isInitial x) (c .«shill_handle») 0) 0)
+  unfolding replyTo
+  bytes-cases true e = ins-refused c (dataOf (x .command)) (x .fresh) (isInitial x) e
+  bytes-cases false e = (refl, refl)
+
+  refused-bytes : accepted c x ≡ false → bytesOf c x ≡ cond ok (refusedBytes (isInitial x) (c .«shill_key») (sizeOf c) (x .fresh)) []
+  unfolding accepted answerBytes ok
+  refused-bytes e = bytes-cases ok e .0
+
+  refused-handle : accepted c x ≡ false → outcomeOf c x .answer .handle ≡ cond ok (cond (isInitial x) (c .«shill_handle») 0) 0
+  unfolding accepted outcome ok
+  refused-handle e = handle-cases c (replyTo c (x .command) (x .fresh)) (verdictOn (x .command) (x .fresh) (x .room)) ok ∙ bytes-cases ok e .1
+
+same-answer : (c e : Card) (x y : Call) → Agree c e → Alike x y → accepted c x ≡ false → accepted e y ≡ false → SameAnswer c e x y
+unfolding ok sizeOf
+same-answer c e x y g a n m =
+    record {
+      bytes = refused-bytes c x n ∙ rw (a .frames, a .lengths, a .fresh, a .rooms, g .key, g .size) (sym (refused-bytes e y m));
+      handle = refused-handle c x n ∙ rw (a .frames, a .lengths, a .fresh, a .rooms, g .handle) (sym (refused-handle e y m))
+    }
+
+agree-kept : (c e : Card) (x y : Call) → Agree c e → Agree (outcomeOf c x .card) (outcomeOf e y .card)
+agree-kept c e x y g =
+    rw (card-kept c (x .command) (x .fresh) (x .room), card-kept e (y .command) (y .fresh) (y .room)) (record { key = g .key; handle = g .handle; size = g .size })
+
+-- DEMAND 3, two lists on two cards: where neither accepts, the same answer bytes and key handle, at each place
+pub lists-indistinct : {xs ys : List Call} (c e : Card) → Agree c e → AllAlike xs ys → Indistinct c e xs ys
+unfolding Indistinct
+lists-indistinct c e g none = tt
+lists-indistinct c e g (more {x} {y} a r) = (same-answer c e x y g a, lists-indistinct (outcomeOf c x .card) (outcomeOf e y .card) (agree-kept c e x y g) r)

@@ -1,0 +1,5 @@
+pub mod Command
+pub mod Lists
+pub mod Demand3
+pub mod After
+pub mod Ways

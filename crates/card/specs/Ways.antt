@@ -1,0 +1,68 @@
+-- The three ways through a command call, from what each part ensures to the outcome and the output bytes. Assumes nothing.
+use mathlib.Core.Path.{_≡_, refl, sym, ap, _∙_}
+use mathlib.Core.Bool.{true, false}
+use mathlib.Core.List.{List}
+use Prim.Native.Nat.{ℕ, _*_}
+use native.Mathlib.Omega.{arith}
+use lib.Dec.{eqb}
+use lib.ListN.{length, getD}
+use borrow.Author.Tests.{eq-eqb, ne-eqb}
+use Rattle.octets.specs.Lists.{over, over-none}
+use Rattle.work.specs.Steps.{comparison, decipherment, encipherment, expansion, hashBlock, counted}
+use Rattle.frame.specs.Frame.{frameOf, insOf, dataOf}
+use Rattle.frame.specs.Laws.{command-ins}
+use Rattle.frame.specs.declared.Verdict.{Verdict}
+use Rattle.list.specs.Ber.{placeCount}
+use Rattle.initial.specs.Initial.{initialReply}
+use Rattle.initial.specs.Told.{toldInitial}
+use Rattle.initial.specs.Laws.{initial-counted}
+use Rattle.initial.specs.declared.Initial.{Initial}
+use Rattle.final_command.specs.Final.{finalReply}
+use Rattle.final_command.specs.Told.{toldFinal}
+use Rattle.final_command.specs.declared.Final.{Final}
+use Rattle.plaid_types.specs.Cards.{withSession}
+use Rattle.plaid_types.specs.declared.Card.{Card}
+use Rattle.plaid_types.specs.declared.Outcome.{Outcome}
+use Rattle.card.specs.Command.{replyTo, told, declined, verdictOn, outcome, answerBytes}
+use Rattle.card.specs.After.{afterInitial, afterFinal}
+
+module _ (c : Card) (cmd fresh o : List ℕ) (v : Verdict) (q : v ≡ verdictOn cmd fresh (length o)) where
+  status-is : verdictOn cmd fresh (length o) .status ≡ v .status
+  status-is = ap (λ (x : Verdict). x .status) (sym q)
+
+  pub by-decline : (r : Outcome) → (v .status ≡ 0x9000 → ⊥) → r ≡ record { answer = declined v; card = c } →
+      (r ≡ outcome c cmd fresh (length o)) × (o ≡ over o 0 (answerBytes c cmd fresh (length o)))
+  unfolding outcome answerBytes
+  by-decline r n e =
+      let t : eqb (verdictOn cmd fresh (length o) .status) 0x9000 ≡ false = ap (λ (x : ℕ). eqb x 0x9000) status-is ∙ ne-eqb (v .status) 0x9000 n in
+      (rw (t, ← q) e, rw t (sym (over-none o 0)))
+
+  passes : v .status ≡ 0x9000 → eqb (verdictOn cmd fresh (length o) .status) 0x9000 ≡ true
+  passes e = ap (λ (x : ℕ). eqb x 0x9000) status-is ∙ eq-eqb (v .status) 0x9000 e
+
+  other-none : (k : ℕ) → eqb comparison k ≡ false → (d : List ℕ) → length (c .sets) ≡ 8 → counted k (initialReply c d fresh .steps) ≡ 0
+  other-none k e d l = initial-counted k c d fresh l ∙ rw e (omega arith)
+
+  pub by-initial : (e d : List ℕ) (r : Initial) (z : Outcome) → v .status ≡ 0x9000 → length (c .sets) ≡ 8 → d ≡ dataOf cmd → getD cmd 1 0 ≡ 0x87 →
+      r ≡ toldInitial (initialReply c d fresh) → e ≡ over o 0 (initialReply c d fresh .bytes) → z ≡ afterInitial c r →
+      (z ≡ outcome c cmd fresh (length o)) × (e ≡ over o 0 (answerBytes c cmd fresh (length o)))
+  unfolding outcome answerBytes replyTo
+  by-initial e d r z s l qd qi qr qe qz =
+      let i : eqb (insOf (frameOf cmd)) 0x87 ≡ true = eq-eqb (insOf (frameOf cmd)) 0x87 (command-ins cmd ∙ qi) in
+      ( qz ∙ rw (passes s, i, ← qd, qr, other-none decipherment refl d l, other-none encipherment refl d l, other-none expansion refl d l, other-none hashBlock refl d l)
+      , rw (passes s, i, ← qd) qe
+      )
+
+  final-told : (d : List ℕ) → _≡_ {A = Outcome} (afterFinal c (toldFinal (finalReply c d fresh))) (record { answer = told (finalReply c d fresh); card = withSession c (finalReply c d fresh .session) })
+  unfolding finalReply
+  final-told d = refl
+
+  pub by-final : (e d : List ℕ) (r : Final) (z : Outcome) → v .status ≡ 0x9000 → d ≡ dataOf cmd → (getD cmd 1 0 ≡ 0x87 → ⊥) →
+      r ≡ toldFinal (finalReply c d fresh) → e ≡ over o 0 (finalReply c d fresh .bytes) → z ≡ afterFinal c r →
+      (z ≡ outcome c cmd fresh (length o)) × (e ≡ over o 0 (answerBytes c cmd fresh (length o)))
+  unfolding outcome answerBytes replyTo
+  by-final e d r z s qd qi qr qe qz =
+      let i : eqb (insOf (frameOf cmd)) 0x87 ≡ false = ne-eqb (insOf (frameOf cmd)) 0x87 (λ h. qi (sym (command-ins cmd) ∙ h)) in
+      ( qz ∙ ap (afterFinal c) qr ∙ rw (passes s, i, ← qd) (final-told d)
+      , rw (passes s, i, ← qd) qe
+      )

@@ -1,0 +1,7 @@
+pub mod Buffers
+pub mod Front
+pub mod Slots
+pub mod Within
+pub mod Counts
+pub mod Assembly
+pub mod Verdict

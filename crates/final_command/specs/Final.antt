@@ -1,0 +1,128 @@
+-- Document 01, "Final".
+use mathlib.Core.Bool.{Bool, true, cond, _&&_}
+use mathlib.Core.List.{List, [], _∷_, _++_}
+use Prim.Native.Nat.{ℕ, zero, suc, _+_, _-_, _*_, _/_, _%_}
+use lib.Dec.{eqb, ltb, leb}
+use lib.ListN.{length, getD, replicate}
+use Rattle.octets.specs.Lists.{part, over}
+use Rattle.octets.specs.Bytes.{same}
+use Rattle.aes.specs.Aes.{aes, invAes}
+use Rattle.sha256.specs.Hash.{sha256}
+use Rattle.padding.specs.Method2.{padded, end, rightly}
+use Rattle.work.specs.Steps.{Step}
+use Rattle.cbc.specs.Cbc.{encrypted, decrypted}
+use Rattle.cbc.specs.Steps.{encipherStep, enciphered, deciphered}
+use Rattle.steps.specs.Made.{matched, comparisonStep, expansionStep, hashSteps}
+use Rattle.plaid_types.specs.Cards.{noSession, noMode, Reply}
+use Rattle.plaid_types.specs.declared.KeySetSlot.{KeySetSlot}
+use Rattle.plaid_types.specs.declared.ModeSlot.{ModeSlot}
+use Rattle.plaid_types.specs.declared.Card.{Card}
+
+-- sixteen zero bytes
+abbrev pub zeros : List ℕ
+zeros = replicate 16 0
+
+abbrev pub least : ℕ → ℕ → ℕ
+least a b = cond (ltb a b) a b
+
+-- the FAKey of a KeySetID. A session's is always held; `other` stands for one that is not
+unfoldable pub keyOf : List KeySetSlot → ℕ → List ℕ → List ℕ
+keyOf [] id other = other
+keyOf (k ∷ ks) id other = cond (matched true id (k .held) (k .id .0)) (k .«fa_key») (keyOf ks id other)
+
+-- "With no session the shill AES key stands for FAKey and zeros for RND1."
+unfoldable pub faKeyOf : Card → List ℕ
+faKeyOf c = cond (c .session .opened) (keyOf (c .sets) (c .session .id .0) (c .«shill_key»)) (c .«shill_key»)
+
+unfoldable pub rnd1Of : Card → List ℕ
+rnd1Of c = cond (c .session .opened) (c .session .rnd1) zeros
+
+-- "encipher DivData, giving the diversified key"
+unfoldable pub diversified : Card → List ℕ
+diversified c = aes 4 (faKeyOf c) (c .«div_data»)
+
+-- "n = floor(Lc/16)"
+abbrev pub blocksIn : List ℕ → ℕ
+blocksIn d = length d / 16
+
+-- "decipher n blocks by CBC into 240 bytes that start as zero"
+unfoldable pub textOf : Card → List ℕ → List ℕ
+textOf c d = over (replicate 240 0) 0 (decrypted (invAes 4 (diversified c)) zeros (blocksIn d) d)
+
+-- "hash RND1 and bytes 2 to 17 of these, counted from 0"
+unfoldable pub hashedOf : Card → List ℕ → List ℕ
+hashedOf c d = rnd1Of c ++ part (textOf c d) 2 16
+
+-- "KeysHash is the first 16 bytes of the hash."
+unfoldable pub keysHash : Card → List ℕ → List ℕ
+keysHash c d = part (sha256 (hashedOf c d)) 0 16
+
+-- "compare bytes 0 and 1 with sixteen mode slots (an empty one never matches)"
+unfoldable pub opMode : List ℕ → ℕ
+opMode text = getD text 0 0 * 256 + getD text 1 0
+
+abbrev pub modeSteps : ℕ → List ModeSlot → List Step
+modeSteps v [] = []
+modeSteps v (m ∷ ms) = comparisonStep true v (m .held) (m .id .0) ∷ modeSteps v ms
+
+-- the first mode slot, counted from i, that matches; past the last where none does
+abbrev pub firstMode : ℕ → ℕ → List ModeSlot → ℕ
+firstMode i v [] = i
+firstMode i v (m ∷ ms) = cond (matched true v (m .held) (m .id .0)) i (firstMode (suc i) v ms)
+
+unfoldable pub modeOf : Card → List ℕ → ℕ
+modeOf c d = firstMode 0 (opMode (textOf c d)) (c .modes)
+
+-- the first 16n bytes
+unfoldable pub decipheredText : Card → List ℕ → List ℕ
+decipheredText c d = part (textOf c d) 0 (16 * blocksIn d)
+
+-- the six conditions on a text s of whole blocks: "a session is open, Lc is a multiple of 16, the first 16n bytes are rightly padded,
+-- the unpadded text has at least 34 bytes, its last 16 equal KeysHash, and the mode is held" (its slot is below sixteen)
+unfoldable pub accepting : Bool → ℕ → List ℕ → List ℕ → ℕ → Bool
+accepting opened lc s hash mode =
+    opened && (eqb (lc % 16) 0 && (rightly s && (leb 34 (end s - 1) && (same (part s (end s - 1 - 16) 16) hash && ltb mode 16))))
+
+-- "Accepted exactly when .."
+unfoldable pub acceptsFinal : Card → List ℕ → Bool
+acceptsFinal c d = accepting (c .session .opened) (length d) (decipheredText c d) (keysHash c d) (modeOf c d)
+
+-- "expand the reply key": KeysHash, or the shill key
+unfoldable pub replyKey : Card → List ℕ → List ℕ
+replyKey c d = cond (acceptsFinal c d) (keysHash c d) (c .«shill_key»)
+
+-- the record of a mode: a part of the record area, of at most 64 bytes
+unfoldable pub recordOf : List ℕ → ModeSlot → List ℕ
+recordOf area m = part area (m .start) (least (m .len) 64)
+
+-- reply size B, which a load makes 2 to 6
+unfoldable pub sizeOf : Card → ℕ
+sizeOf c = least (c .«reply_size») 6
+
+-- "the reply is record, DivData and padding .. Otherwise the first 16B fresh bytes .., unpadded"
+unfoldable pub replyText : Bool → List ℕ → ModeSlot → List ℕ → List ℕ → ℕ → List ℕ
+replyText accepted area m div fresh b = cond accepted (padded (recordOf area m ++ div)) (part fresh 0 (16 * b))
+
+-- what is enciphered, in a buffer of 96 bytes that starts as zero. On a card that a load returned the text fills B blocks exactly
+unfoldable pub replyBuffer : Card → List ℕ → List ℕ → List ℕ
+replyBuffer c d fresh = over (replicate 96 0) 0 (replyText (acceptsFinal c d) (c .area) (getD (c .modes) (modeOf c d) noMode) (c .«div_data») fresh (sizeOf c))
+
+-- "encipher B blocks", "by CBC"
+unfoldable pub finalBytes : Card → List ℕ → List ℕ → List ℕ
+finalBytes c d fresh = encrypted (aes 4 (replyKey c d)) zeros (sizeOf c) (replyBuffer c d fresh)
+
+-- "Steps, always all: expand FAKey; encipher DivData ..; expand it; decipher n blocks ..; hash ..; compare ..; expand the reply key; encipher B blocks."
+unfoldable pub finalSteps : Card → List ℕ → List ℕ → List Step
+finalSteps c d fresh =
+    (expansionStep (faKeyOf c) ∷ []) ++
+    (encipherStep (faKeyOf c) (aes 4 (faKeyOf c)) (c .«div_data») ∷ []) ++
+    (expansionStep (diversified c) ∷ []) ++
+    deciphered (diversified c) (invAes 4 (diversified c)) (blocksIn d) d ++
+    hashSteps (hashedOf c d) ++
+    modeSteps (opMode (textOf c d)) (c .modes) ++
+    (expansionStep (replyKey c d) ∷ []) ++
+    enciphered (replyKey c d) (aes 4 (replyKey c d)) zeros (sizeOf c) (replyBuffer c d fresh)
+
+-- "The session closes either way. A final answer's key handle is 0."
+unfoldable pub finalReply : Card → List ℕ → List ℕ → Reply
+finalReply c d fresh = record { handle = 0; bytes = finalBytes c d fresh; steps = finalSteps c d fresh; session = noSession }

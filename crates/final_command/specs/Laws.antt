@@ -1,0 +1,130 @@
+-- The counts and the length of a final command's reply. Assumes nothing.
+use mathlib.Core.Path.{_≡_, refl, ap, _∙_}
+use mathlib.Core.Bool.{Bool, true, false, cond}
+use mathlib.Core.List.{List, [], _∷_}
+use Prim.Native.Nat.{ℕ, zero, suc, _+_, _*_, _≤_}
+use native.Mathlib.Omega.{arith}
+use lib.Dec.{eqb, ltb}
+use lib.ListN.{length, replicate, drop, length-append, length-drop}
+use borrow.Author.Tests.{ltb-false}
+use Rattle.octets.specs.Lists.{part, over, table, length-part}
+use Rattle.rounds.specs.Cipher.{cipher, lastRound}
+use Rattle.aes.specs.Aes.{aes, invAes}
+use Rattle.sha256.specs.Parsing.{blocks}
+use Rattle.sha256.specs.PaddingLaws.{blocks-count}
+use Rattle.work.specs.Steps.{comparison, decipherment, encipherment, expansion, hashBlock, counted}
+use Rattle.work.specs.Laws.{counted-append}
+use Rattle.cbc.specs.Cbc.{_⊕_, encrypted, decrypted}
+use Rattle.cbc.specs.Steps.{enciphered, deciphered}
+use Rattle.steps.specs.Made.{hashStep, hashSteps}
+use Rattle.plaid_types.specs.declared.ModeSlot.{ModeSlot}
+use Rattle.plaid_types.specs.declared.Card.{Card}
+use Rattle.final_command.specs.Final.{zeros, rnd1Of, diversified, blocksIn, textOf, hashedOf, modeSteps, replyKey, sizeOf, replyBuffer, finalBytes, finalSteps, finalReply}
+
+pub length-aes : (key s : List ℕ) → length (aes 4 key s) ≡ 16
+unfolding cipher lastRound
+length-aes key s = refl
+
+pub length-encrypted : (ciph : List ℕ → List ℕ) → ((x : List ℕ) → length (ciph x) ≡ 16) → (n : ℕ) (iv s : List ℕ) → length (encrypted ciph iv n s) ≡ 16 * n
+unfolding encrypted
+length-encrypted ciph h zero iv s = refl
+length-encrypted ciph h (suc n) iv s =
+    let x : List ℕ = part s 0 16 ⊕ iv in
+    length-append (ciph x) (encrypted ciph (ciph x) n (drop 16 s)) ∙ omega (arith, h x, length-encrypted ciph h n (ciph x) (drop 16 s))
+
+-- "Answer length: .. 16B"
+pub final-length : (c : Card) (d fresh : List ℕ) → length (finalReply c d fresh .bytes) ≡ 16 * sizeOf c
+unfolding finalReply finalBytes
+final-length c d fresh = length-encrypted (aes 4 (replyKey c d)) (length-aes (replyKey c d)) (sizeOf c) zeros (replyBuffer c d fresh)
+
+least-is : (a b : ℕ) (t : Bool) → ltb a b ≡ t → a ≤ b → cond t a b ≡ a
+least-is a b true e h = refl
+least-is a b false e h = omega (arith, ltb-false a b e)
+
+pub size-loaded : (c : Card) → c .«reply_size» ≤ 6 → sizeOf c ≡ c .«reply_size»
+unfolding sizeOf
+size-loaded c h = least-is (c .«reply_size») 6 (ltb (c .«reply_size») 6) refl h
+
+-- one for a step of kind j among those of kind k
+abbrev of-kind : ℕ → ℕ → ℕ
+of-kind j k = cond (eqb j k) 1 0
+
+times-more : (t : Bool) (n : ℕ) → cond t 1 0 + n * cond t 1 0 ≡ suc n * cond t 1 0
+times-more true n = omega arith
+times-more false n = omega arith
+
+times-none : (t : Bool) → 0 ≡ 0 * cond t 1 0
+times-none true = refl
+times-none false = refl
+
+counted-deciphered : (k : ℕ) (key : List ℕ) (inv : List ℕ → List ℕ) (n : ℕ) (s : List ℕ) → counted k (deciphered key inv n s) ≡ n * of-kind decipherment k
+unfolding deciphered
+counted-deciphered k key inv zero s = times-none (eqb decipherment k)
+counted-deciphered k key inv (suc n) s = ap (λ (m : ℕ). of-kind decipherment k + m) (counted-deciphered k key inv n (drop 16 s)) ∙ times-more (eqb decipherment k) n
+
+counted-enciphered : (k : ℕ) (key : List ℕ) (ciph : List ℕ → List ℕ) (n : ℕ) (iv s : List ℕ) → counted k (enciphered key ciph iv n s) ≡ n * of-kind encipherment k
+unfolding enciphered
+counted-enciphered k key ciph zero iv s = times-none (eqb encipherment k)
+counted-enciphered k key ciph (suc n) iv s = ap (λ (m : ℕ). of-kind encipherment k + m) (counted-enciphered k key ciph n _ (drop 16 s)) ∙ times-more (eqb encipherment k) n
+
+counted-hash : (k : ℕ) (m : List ℕ) (n j : ℕ) → counted k (table (hashStep m) n j) ≡ n * of-kind hashBlock k
+counted-hash k m zero j = times-none (eqb hashBlock k)
+counted-hash k m (suc n) j = ap (λ (i : ℕ). of-kind hashBlock k + i) (counted-hash k m n (suc j)) ∙ times-more (eqb hashBlock k) n
+
+pub counted-modes : (k v : ℕ) (ms : List ModeSlot) → counted k (modeSteps v ms) ≡ length ms * of-kind comparison k
+counted-modes k v [] = times-none (eqb comparison k)
+counted-modes k v (m ∷ ms) = ap (λ (n : ℕ). of-kind comparison k + n) (counted-modes k v ms) ∙ times-more (eqb comparison k) (length ms)
+
+counted-final : (k : ℕ) (c : Card) (d fresh : List ℕ) →
+    counted k (finalSteps c d fresh) ≡
+    of-kind expansion k + of-kind encipherment k + of-kind expansion k + blocksIn d * of-kind decipherment k + blocks (hashedOf c d) * of-kind hashBlock k
+    + length (c .modes) * of-kind comparison k + of-kind expansion k + sizeOf c * of-kind encipherment k
+unfolding finalSteps hashSteps
+counted-final k c d fresh =
+    simp (counted-append, counted-deciphered, counted-hash, counted-modes, counted-enciphered) (omega arith)
+
+length-over-most : (d s : List ℕ) → length d ≤ length (over d 0 s)
+unfolding over
+length-over-most d s = omega (arith, length-append s (drop (0 + length s) d), length-drop (0 + length s) d)
+
+length-hashed : (c : Card) (d : List ℕ) → length (rnd1Of c) ≡ 16 → length (hashedOf c d) ≡ 32
+unfolding hashedOf textOf
+length-hashed c d h =
+    length-append (rnd1Of c) (part (textOf c d) 2 16)
+    ∙ omega (arith, length-part (textOf c d) 2 16 (omega (arith, length-over-most (replicate 240 0) (decrypted (invAes 4 (diversified c)) zeros (blocksIn d) d))))
+
+blocks-one : (m : List ℕ) → length m ≡ 32 → blocks m ≡ 1
+blocks-one m e = blocks-count m ∙ omega (arith, e)
+
+-- "Final: 16 comparisons, n decipherments, B + 1 encipherments, 3 expansions, 1 hash block."
+module _ (c : Card) (d fresh : List ℕ) (lm : length (c .modes) ≡ 16) (lr : length (rnd1Of c) ≡ 16) where
+  one-block : blocks (hashedOf c d) ≡ 1
+  one-block = blocks-one (hashedOf c d) (length-hashed c d lr)
+
+  pub final-comparisons : counted comparison (finalReply c d fresh .steps) ≡ 16
+  unfolding finalReply
+  final-comparisons = counted-final comparison c d fresh ∙ omega (arith, one-block)
+
+  pub final-decipherments : counted decipherment (finalReply c d fresh .steps) ≡ blocksIn d
+  unfolding finalReply
+  final-decipherments = counted-final decipherment c d fresh ∙ omega (arith, one-block)
+
+  pub final-encipherments : counted encipherment (finalReply c d fresh .steps) ≡ sizeOf c + 1
+  unfolding finalReply
+  final-encipherments = counted-final encipherment c d fresh ∙ omega (arith, one-block)
+
+  pub final-expansions : counted expansion (finalReply c d fresh .steps) ≡ 3
+  unfolding finalReply
+  final-expansions = counted-final expansion c d fresh ∙ omega (arith, one-block)
+
+  pub final-hash-blocks : counted hashBlock (finalReply c d fresh .steps) ≡ 1
+  unfolding finalReply
+  final-hash-blocks = counted-final hashBlock c d fresh ∙ omega (arith, one-block)
+
+rnd1-cases : (c : Card) (t : Bool) → length (c .session .rnd1) ≡ 16 → length (cond t (c .session .rnd1) zeros) ≡ 16
+rnd1-cases c true h = h
+rnd1-cases c false h = refl
+
+pub rnd1-length : (c : Card) → length (c .session .rnd1) ≡ 16 → length (rnd1Of c) ≡ 16
+unfolding rnd1Of
+rnd1-length c h = rnd1-cases c (c .session .opened) h

@@ -1,0 +1,4 @@
+pub mod Final
+pub mod Told
+pub mod Parts
+pub mod Laws

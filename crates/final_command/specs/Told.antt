@@ -1,0 +1,17 @@
+-- Document 01, "Counts": what is told of a reply, each from its list of steps or its bytes.
+use lib.ListN.{length}
+use Rattle.work.specs.Steps.{comparison, decipherment, encipherment, expansion, hashBlock, counted, workSum}
+use Rattle.plaid_types.specs.Cards.{Reply}
+use Rattle.final_command.specs.declared.Final.{Final}
+
+abbrev pub toldFinal : Reply → Final
+toldFinal rep =
+    record {
+      comparisons = counted comparison (rep .steps);
+      decipherments = counted decipherment (rep .steps);
+      encipherments = counted encipherment (rep .steps);
+      expansions = counted expansion (rep .steps);
+      «hash_blocks» = counted hashBlock (rep .steps);
+      length = length (rep .bytes);
+      sum = workSum (rep .steps);
+    }

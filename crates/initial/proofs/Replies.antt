@@ -1,0 +1,110 @@
+-- The two ways of `run` to the reply, accepted and refused: from what was found and what was written. Assumes nothing.
+use mathlib.Core.Path.{_≡_, refl, ap, _∙_}
+use mathlib.Core.Bool.{true}
+use mathlib.Core.List.{List, [], _∷_}
+use Prim.Native.Nat.{ℕ, zero, suc, _<_, _≤_}
+use native.Mathlib.Nat.{not-suc-le-zero, le-of-suc-le-suc}
+use native.Mathlib.Omega.{arith}
+use borrow.Author.Tests.{lt-ltb, le-ltb}
+use lib.ListN.{length, getD, length-append}
+use Rattle.octets.specs.Lists.{part, over}
+use Rattle.work.specs.Steps.{comparison, counted, workSum}
+use Rattle.frame.specs.Declines.{padBytes}
+use Rattle.plaid_types.specs.Cards.{noSession, noSet, Reply}
+use Rattle.plaid_types.specs.declared.KeySetSlot.{KeySetSlot}
+use Rattle.plaid_types.specs.declared.Session.{Session}
+use Rattle.plaid_types.specs.declared.Card.{Card}
+use Rattle.initial.specs.Initial.{initialSteps, slotOf, str1, blockOf, acceptedInitial, refusedInitial, initialReply}
+use Rattle.initial.specs.Told.{dataFound, headOf, toldInitial}
+use Rattle.initial.specs.Laws.{initial-length}
+use Rattle.initial.specs.declared.Found.{Found}
+use Rattle.initial.specs.declared.Initial.{Initial}
+use Rattle.initial.proofs.Writes.{over-next, length-pads}
+
+-- an element that is there is the same by every default
+getD-there : (l : List KeySetSlot) (i : ℕ) (x y : KeySetSlot) → i < length l → getD l i x ≡ getD l i y
+getD-there [] i x y h = absurd (not-suc-le-zero h)
+getD-there (k ∷ ks) zero x y h = refl
+getD-there (k ∷ ks) (suc i) x y h = getD-there ks i x y (le-of-suc-le-suc h)
+
+-- the head, and the text behind it
+block-writes :
+    (fresh text o : List ℕ) {e₁ e₂ : List ℕ}
+    → length fresh ≡ 253
+    → e₁ ≡ over o 0 (headOf fresh)
+    → e₂ ≡ over e₁ 206 text
+    → e₂ ≡ over o 0 (blockOf fresh text)
+unfolding blockOf
+block-writes fresh text o l q₁ q₂ =
+    over-next o (headOf fresh) text 0 (omega (arith, length-append (padBytes fresh) (0 ∷ []), length-pads fresh l)) (omega arith) q₁ q₂
+
+module _ (c : Card) (d fresh : List ℕ) {f : Found} (lf : length fresh ≡ 253) (ld : length (c .«div_data») ≡ 16)
+    (q : f ≡ dataFound (c .sets) d) where
+  slot-found : f .at ≡ slotOf c d
+  unfolding slotOf
+  slot-found = ap (λ (x : Found). x .at) q
+
+  steps-counted : f .count ≡ counted comparison (initialSteps c d)
+  unfolding initialSteps
+  steps-counted = ap (λ (x : Found). x .count) q
+
+  steps-summed : f .sum ≡ workSum (initialSteps c d)
+  unfolding initialSteps
+  steps-summed = ap (λ (x : Found). x .sum) q
+
+  told-of : (r : Reply) → r ≡ initialReply c d fresh → r .steps ≡ initialSteps c d →
+      _≡_ {A = Initial} (record { handle = r .handle; comparisons = f .count; length = 256; sum = f .sum; session = r .session }) (toldInitial r)
+  told-of r e s = rw (s, steps-counted, steps-summed, ap (λ (x : Reply). length (x .bytes)) e, initial-length c d fresh ld lf)
+
+  is-accepted : f .at < 8 → acceptedInitial c d fresh (getD (c .sets) (f .at) noSet) ≡ initialReply c d fresh
+  unfolding initialReply
+  is-accepted h = rw (slot-found, lt-ltb (slotOf c d) 8 (rw slot-found at h))
+
+  is-refused : 8 ≤ f .at → refusedInitial c d fresh ≡ initialReply c d fresh
+  unfolding initialReply
+  is-refused h = rw (le-ltb (slotOf c d) 8 (rw slot-found at h))
+
+  -- the slot is read with a default of the code's own
+  pub accepted :
+      (o : List ℕ) (x : KeySetSlot) {e₁ e₂ rnd1 : List ℕ}
+      → length (c .sets) ≡ 8
+      → f .at < 8
+      → rnd1 ≡ part fresh 0 16
+      → e₁ ≡ over o 0 (headOf fresh)
+      → e₂ ≡ over e₁ 206 (str1 (getD (c .sets) (f .at) x .id .0) (c .«div_data») rnd1)
+      → (_≡_ {A = Initial}
+      (record {
+        handle = getD (c .sets) (f .at) x .handle;
+        comparisons = f .count;
+        length = 256;
+        sum = f .sum;
+        session = record { opened = true; id = getD (c .sets) (f .at) x .id; rnd1 = rnd1 };
+      })
+      (toldInitial (initialReply c d fresh)))
+      × (e₂ ≡ over o 0 (initialReply c d fresh .bytes))
+  accepted o x {e₁} {e₂} {rnd1} ls h rn w₁ w₂ =
+      let k : getD (c .sets) (f .at) x ≡ getD (c .sets) (f .at) noSet = getD-there (c .sets) (f .at) x noSet (omega arith) in
+      let r : Reply = acceptedInitial c d fresh (getD (c .sets) (f .at) noSet) in
+      let e : r ≡ initialReply c d fresh = is-accepted h in (
+        rw (k, rn) (told-of r e refl ∙ ap toldInitial e),
+        block-writes fresh (str1 (getD (c .sets) (f .at) x .id .0) (c .«div_data») rnd1) o lf w₁ w₂
+            ∙ rw (k, rn) (ap (λ (y : Reply). over o 0 (y .bytes)) e),
+      )
+
+  pub refused :
+      (o : List ℕ) {e₁ e₂ text : List ℕ} {s : Session}
+      → 8 ≤ f .at
+      → s ≡ noSession
+      → text ≡ part fresh 0 50
+      → e₁ ≡ over o 0 (headOf fresh)
+      → e₂ ≡ over e₁ 206 text
+      → (_≡_ {A = Initial} (record { handle = c .«shill_handle»; comparisons = f .count; length = 256; sum = f .sum; session = s }) (toldInitial (initialReply c d fresh)))
+      × (e₂ ≡ over o 0 (initialReply c d fresh .bytes))
+  refused o {e₁} {e₂} {text} {s} h sn tn w₁ w₂ =
+      let r : Reply = refusedInitial c d fresh in
+      let e : r ≡ initialReply c d fresh = is-refused h in (
+        rw sn (told-of r e refl ∙ ap toldInitial e),
+        block-writes fresh text o lf w₁ w₂
+            ∙ ap (λ (x : List ℕ). over o 0 (blockOf fresh x)) tn
+            ∙ ap (λ (x : Reply). over o 0 (x .bytes)) e,
+      )

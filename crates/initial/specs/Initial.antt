@@ -1,0 +1,80 @@
+-- Document 01, "Initial".
+use mathlib.Core.Bool.{Bool, true, cond, _&&_}
+use mathlib.Core.List.{List, [], _∷_, _++_}
+use Prim.Native.Nat.{ℕ, zero, suc, _/_, _%_}
+use lib.Dec.{eqb, ltb}
+use lib.ListN.{getD}
+use Rattle.octets.specs.Lists.{part}
+use Rattle.work.specs.Steps.{Step}
+use Rattle.steps.specs.Made.{matched, comparisonStep}
+use Rattle.frame.specs.Declines.{padBytes}
+use Rattle.list.specs.Ber.{entryAt, placeCount, listed}
+use Rattle.plaid_types.specs.Cards.{noSession, noSet, Reply}
+use Rattle.plaid_types.specs.declared.KeySetSlot.{KeySetSlot}
+use Rattle.plaid_types.specs.declared.Session.{Session}
+use Rattle.plaid_types.specs.declared.Card.{Card}
+
+-- a place "compared with all eight slots", in order
+abbrev pub slotSteps : Bool → ℕ → List KeySetSlot → List Step
+slotSteps present v [] = []
+slotSteps present v (k ∷ ks) = comparisonStep present v (k .held) (k .id .0) ∷ slotSteps present v ks
+
+-- the first slot, counted from i, that matches a place; past the last where none does
+abbrev pub firstSlot : ℕ → Bool → ℕ → List KeySetSlot → ℕ
+firstSlot i present v [] = i
+firstSlot i present v (k ∷ ks) = cond (matched present v (k .held) (k .id .0)) i (firstSlot (suc i) present v ks)
+
+-- the n places from place p of the data on: "empty slots and missing places included, which never match; a malformed list has only missing places"
+unfoldable pub placeSteps : List KeySetSlot → Bool → List ℕ → ℕ → ℕ → List Step
+placeSteps sets formed d p zero = []
+placeSteps sets formed d p (suc n) = slotSteps (formed && entryAt d p .ok) (entryAt d p .id) sets ++ placeSteps sets formed d (entryAt d p .next) n
+
+-- "the first entry that the card holds wins": its slot, or 8
+unfoldable pub firstPlace : List KeySetSlot → Bool → List ℕ → ℕ → ℕ → ℕ
+firstPlace sets formed d p zero = 8
+firstPlace sets formed d p (suc n) =
+    cond (eqb (firstSlot 0 (formed && entryAt d p .ok) (entryAt d p .id) sets) 8)
+    (firstPlace sets formed d (entryAt d p .next) n)
+    (firstSlot 0 (formed && entryAt d p .ok) (entryAt d p .id) sets)
+
+-- "Exactly floor(Lc/4) places are compared"
+unfoldable pub initialSteps : Card → List ℕ → List Step
+initialSteps c d = placeSteps (c .sets) (listed d .formed) d (listed d .first) (placeCount d)
+
+unfoldable pub slotOf : Card → List ℕ → ℕ
+slotOf c d = firstPlace (c .sets) (listed d .formed) d (listed d .first) (placeCount d)
+
+-- "Refused (malformed or no match)"
+abbrev pub acceptsInitial : Card → List ℕ → Bool
+acceptsInitial c d = ltb (slotOf c d) 8
+
+-- "STR1 = KeySetID, DivData, RND1, RND1"
+unfoldable pub str1 : ℕ → List ℕ → List ℕ → List ℕ
+str1 id div rnd1 = id / 256 ∷ id % 256 ∷ (div ++ (rnd1 ++ rnd1))
+
+-- "The output block is 00 02, the pad bytes, 00, those 50 bytes."
+unfoldable pub blockOf : List ℕ → List ℕ → List ℕ
+blockOf fresh text = (0 ∷ 2 ∷ (padBytes fresh ++ (0 ∷ []))) ++ text
+
+-- "Accepted: .. RND1 is the first 16 of F; handle of that key set; session opens, replacing any other."
+abbrev pub acceptedInitial : Card → List ℕ → List ℕ → KeySetSlot → Reply
+acceptedInitial c d fresh k =
+    record {
+      handle = k .handle;
+      bytes = blockOf fresh (str1 (k .id .0) (c .«div_data») (part fresh 0 16));
+      steps = initialSteps c d;
+      session = record { opened = true; id = k .id; rnd1 = part fresh 0 16 };
+    }
+
+-- "Refused ..: F stands for STR1, shill handle, no session."
+abbrev pub refusedInitial : Card → List ℕ → List ℕ → Reply
+refusedInitial c d fresh =
+    record {
+      handle = c .«shill_handle»;
+      bytes = blockOf fresh (part fresh 0 50);
+      steps = initialSteps c d;
+      session = noSession;
+    }
+
+unfoldable pub initialReply : Card → List ℕ → List ℕ → Reply
+initialReply c d fresh = cond (acceptsInitial c d) (acceptedInitial c d fresh (getD (c .sets) (slotOf c d) noSet)) (refusedInitial c d fresh)

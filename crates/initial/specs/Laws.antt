@@ -1,0 +1,91 @@
+-- The counts and the length of an initial command's reply. Assumes nothing.
+use mathlib.Core.Path.{_≡_, refl, ap, _∙_}
+use mathlib.Core.Bool.{Bool, true, false, cond, _&&_}
+use mathlib.Core.List.{List, [], _∷_, _++_}
+use Prim.Native.Nat.{ℕ, zero, suc, _+_, _*_}
+use native.Mathlib.Omega.{arith}
+use lib.Dec.{eqb}
+use lib.ListN.{length, getD, length-append, length-drop}
+use Rattle.octets.specs.Lists.{part, length-part}
+use Rattle.work.specs.Steps.{comparison, counted}
+use Rattle.work.specs.Laws.{counted-append}
+use Rattle.frame.specs.Declines.{padBytes}
+use Rattle.list.specs.Ber.{entryAt, placeCount, listed}
+use Rattle.plaid_types.specs.Cards.{noSet}
+use Rattle.plaid_types.specs.declared.KeySetSlot.{KeySetSlot}
+use Rattle.plaid_types.specs.declared.Card.{Card}
+use Rattle.initial.specs.Initial.{slotSteps, placeSteps, initialSteps, slotOf, acceptsInitial, str1, blockOf, acceptedInitial, refusedInitial, initialReply}
+
+-- one for a step of kind k, if it is a comparison
+abbrev of-kind : ℕ → ℕ
+of-kind k = cond (eqb comparison k) 1 0
+
+pub counted-slots : (k : ℕ) (present : Bool) (v : ℕ) (sets : List KeySetSlot) → counted k (slotSteps present v sets) ≡ length sets * of-kind k
+counted-slots k present v [] = kind-none (eqb comparison k)
+  where
+    kind-none : (t : Bool) → 0 ≡ 0 * cond t 1 0
+    kind-none true = refl
+    kind-none false = refl
+counted-slots k present v (x ∷ xs) = ap (λ (n : ℕ). of-kind k + n) (counted-slots k present v xs) ∙ kind-more (eqb comparison k) (length xs)
+  where
+    kind-more : (t : Bool) (n : ℕ) → cond t 1 0 + n * cond t 1 0 ≡ suc n * cond t 1 0
+    kind-more true n = omega arith
+    kind-more false n = omega arith
+
+counted-places : (k : ℕ) (sets : List KeySetSlot) (formed : Bool) (d : List ℕ) (p n : ℕ) → length sets ≡ 8 → counted k (placeSteps sets formed d p n) ≡ 8 * n * of-kind k
+unfolding placeSteps
+counted-places k sets formed d p zero l = none (eqb comparison k)
+  where
+    none : (t : Bool) → 0 ≡ 8 * 0 * cond t 1 0
+    none true = refl
+    none false = refl
+counted-places k sets formed d p (suc n) l =
+    counted-append k (slotSteps (formed && entryAt d p .ok) (entryAt d p .id) sets) (placeSteps sets formed d (entryAt d p .next) n)
+    ∙ rw (counted-slots k (formed && entryAt d p .ok) (entryAt d p .id) sets, l, counted-places k sets formed d (entryAt d p .next) n l) (more (eqb comparison k) n)
+  where
+    more : (t : Bool) (n : ℕ) → 8 * cond t 1 0 + 8 * n * cond t 1 0 ≡ 8 * suc n * cond t 1 0
+    more true n = omega arith
+    more false n = omega arith
+
+reply-steps : (c : Card) (d fresh : List ℕ) (t : Bool) → cond t (acceptedInitial c d fresh (getD (c .sets) (slotOf c d) noSet)) (refusedInitial c d fresh) .steps ≡ initialSteps c d
+reply-steps c d fresh true = refl
+reply-steps c d fresh false = refl
+
+pub initial-steps : (c : Card) (d fresh : List ℕ) → initialReply c d fresh .steps ≡ initialSteps c d
+unfolding initialReply
+initial-steps c d fresh = reply-steps c d fresh (acceptsInitial c d)
+
+-- "Initial: 8 times floor(Lc/4) comparisons, the rest 0."
+pub initial-counted : (k : ℕ) (c : Card) (d fresh : List ℕ) → length (c .sets) ≡ 8 → counted k (initialReply c d fresh .steps) ≡ 8 * placeCount d * of-kind k
+unfolding initialSteps
+initial-counted k c d fresh l = ap (counted k) (initial-steps c d fresh) ∙ counted-places k (c .sets) (listed d .formed) d (listed d .first) (placeCount d) l
+
+length-str1 : (id : ℕ) (div rnd1 : List ℕ) → length div ≡ 16 → length rnd1 ≡ 16 → length (str1 id div rnd1) ≡ 50
+unfolding str1
+length-str1 id div rnd1 ld lr = omega (arith, length-append div (rnd1 ++ rnd1), length-append rnd1 rnd1)
+
+length-block : (fresh text : List ℕ) → length fresh ≡ 253 → length text ≡ 50 → length (blockOf fresh text) ≡ 256
+unfolding blockOf padBytes
+length-block fresh text lf lt =
+    length-append (0 ∷ 2 ∷ (padBytes fresh ++ (0 ∷ []))) text ∙ omega (arith, length-append (padBytes fresh) (0 ∷ []), length-drop 50 fresh)
+
+length-cases : (c : Card) (d fresh : List ℕ) (t : Bool) → length (c .«div_data») ≡ 16 → length fresh ≡ 253 →
+    length (cond t (acceptedInitial c d fresh (getD (c .sets) (slotOf c d) noSet)) (refusedInitial c d fresh) .bytes) ≡ 256
+length-cases c d fresh true ld lf =
+    length-block fresh _ lf (length-str1 (getD (c .sets) (slotOf c d) noSet .id .0) (c .«div_data») (part fresh 0 16) ld (length-part fresh 0 16 (omega arith)))
+length-cases c d fresh false ld lf = length-block fresh (part fresh 0 50) lf (length-part fresh 0 50 (omega arith))
+
+-- "Answer length: 256"
+pub initial-length : (c : Card) (d fresh : List ℕ) → length (c .«div_data») ≡ 16 → length fresh ≡ 253 → length (initialReply c d fresh .bytes) ≡ 256
+unfolding initialReply
+initial-length c d fresh ld lf = length-cases c d fresh (acceptsInitial c d) ld lf
+
+-- the session afterwards has a RND1 of sixteen bytes
+session-cases : (c : Card) (d fresh : List ℕ) (t : Bool) → length fresh ≡ 253 →
+    length (cond t (acceptedInitial c d fresh (getD (c .sets) (slotOf c d) noSet)) (refusedInitial c d fresh) .session .rnd1) ≡ 16
+session-cases c d fresh true lf = length-part fresh 0 16 (omega arith)
+session-cases c d fresh false lf = refl
+
+pub initial-rnd1 : (c : Card) (d fresh : List ℕ) → length fresh ≡ 253 → length (initialReply c d fresh .session .rnd1) ≡ 16
+unfolding initialReply
+initial-rnd1 c d fresh lf = session-cases c d fresh (acceptsInitial c d) lf

@@ -1,0 +1,3 @@
+pub mod Initial
+pub mod Told
+pub mod Laws

@@ -1,0 +1,171 @@
+//! The initial command: the places of its list against the key sets of a card, and the block that answers it.
+use plaid_types::Card;
+use plaid_types::KeySetSlot;
+use plaid_types::Session;
+ghost use mathlib.Core.Path.{_≡_};
+ghost use mathlib.Core.Bool.{_&&_, cond};
+ghost use Prim.Native.Nat.{_<_, _≤_};
+ghost use lib.Dec.{eqb};
+ghost use lib.ListN.{length};
+ghost use Rattle.octets.specs.Lists.{part, over};
+ghost use Rattle.frame.specs.Declines.{padBytes};
+ghost use Rattle.initial.specs.Initial.{str1, initialReply};
+ghost use Rattle.initial.specs.Told.{slotsFound, dataFound, headOf, toldInitial};
+
+// Where the first match is (8: none), how many comparisons there were, and the work sum after them.
+pub struct Found {
+    pub at: usize,
+    pub count: usize,
+    pub sum: u32,
+}
+
+// A place against all eight slots, with no early end.
+fn compare_slots(sets: [KeySetSlot; 8], present: bool, v: u16, sum: u32) -> Found
+    ensures { λ r. ⌜ r ≡ slotsFound present v sets sum ⌝ }
+{
+    let mut at: usize = 8;
+    let mut s = sum;
+    let mut count: usize = 0;
+    let mut i: usize = 0;
+    while i < 8 {
+        let k = sets[i];
+        let w = k.id;
+        let c = steps::compare(present, v, k.held, w.0, s);
+        s = c.sum;
+        count += c.count;
+        at = steps::keep(8, at, i, c.hit);
+        i += 1;
+    }
+    Found {
+        at: at,
+        count: count,
+        sum: s,
+    }
+}
+
+fn both(a: bool, b: bool) -> bool
+    ensures { λ r. ⌜ r ≡ (a && b) ⌝ }
+{
+    if a { b } else { false }
+}
+
+// The first entry that the card holds wins, not the first slot.
+fn first_of(at: usize, f: usize) -> usize
+    ensures { λ r. ⌜ r ≡ cond (eqb at 8) f at ⌝ }
+{
+    if at == 8 { f } else { at }
+}
+
+// Every place of the list against every slot, missing places and empty slots too.
+fn compare_places(sets: [KeySetSlot; 8], d: &[u8]) -> Found
+    requires { ⌜ length (now d) < 256 ⌝ }
+    ensures { λ r. ⌜ r ≡ dataFound sets (now (d .entry)) ⌝ }
+{
+    let l = list::parse(d);
+    let mut p = l.first;
+    let n = d.len() / 4;
+    let mut at: usize = 8;
+    let mut s: u32 = 0;
+    let mut count: usize = 0;
+    let mut j: usize = 0;
+    while j < n {
+        let e = list::entry_at(d, p);
+        let f = compare_slots(sets, both(l.formed, e.ok), e.id, s);
+        s = f.sum;
+        count += f.count;
+        at = first_of(at, f.at);
+        p = e.next;
+        j += 1;
+    }
+    Found {
+        at: at,
+        count: count,
+        sum: s,
+    }
+}
+
+// The first fifty of the fresh bytes, and the rest: the pad bytes.
+fn first_fifty(fresh: &[u8]) -> &[u8]
+    requires { ⌜ 50 ≤ length (now fresh) ⌝ }
+    ensures { λ r. ⌜ now r ≡ part (now (fresh .entry)) 0 50 ⌝ }
+{
+    &fresh[..50]
+}
+
+fn pad_bytes(fresh: &[u8]) -> &[u8]
+    requires { ⌜ 50 ≤ length (now fresh) ⌝ }
+    ensures { λ r. ⌜ now r ≡ padBytes (now (fresh .entry)) ⌝ }
+{
+    &fresh[50..]
+}
+
+// What stands before the fifty bytes: 00 02, the pad bytes, 00.
+fn head(fresh: &[u8], out: &mut [u8])
+    requires { ⌜ (length (now fresh) ≡ 253) × (256 ≤ length (now out)) ⌝ }
+    ensures { λ _. ⌜ now (out .exit) ≡ over (now (out .entry)) 0 (headOf (now (fresh .entry))) ⌝ }
+{
+    let start = [0u8, 2];
+    octets::copy_at(out, 0, &start);
+    octets::copy_at(out, 2, pad_bytes(fresh));
+    let end = [0u8];
+    octets::copy_at(out, 205, &end);
+}
+
+// The fifty bytes of an accepted command: KeySetID, DivData, RND1, RND1.
+fn str1(id: u16, div: [u8; 16], rnd1: [u8; 16], out: &mut [u8])
+    requires { ⌜ 256 ≤ length (now out) ⌝ }
+    ensures { λ _. ⌜ now (out .exit) ≡ over (now (out .entry)) 206 (str1 id div rnd1) ⌝ }
+{
+    let number = [(id / 256) as u8, (id % 256) as u8];
+    octets::copy_at(out, 206, &number);
+    octets::copy_at(out, 208, &div);
+    octets::copy_at(out, 224, &rnd1);
+    octets::copy_at(out, 240, &rnd1);
+}
+
+// What an initial command hands back beside the bytes of its answer.
+pub struct Initial {
+    pub handle: u8,
+    pub comparisons: usize,
+    pub length: usize,
+    pub sum: u32,
+    pub session: Session,
+}
+
+// An initial command of data d behind the checks of its frame.
+pub fn run(card: Card, d: &[u8], fresh: &[u8], out: &mut [u8]) -> Initial
+    requires { ⌜ (length (now d) < 256) × (length (now fresh) ≡ 253) × (256 ≤ length (now out)) ⌝ }
+    ensures { λ r. ⌜ r ≡ toldInitial (initialReply card (now (d .entry)) (now (fresh .entry))) ⌝ }
+    ensures { λ _. ⌜ now (out .exit) ≡ over (now (out .entry)) 0 (initialReply card (now (d .entry)) (now (fresh .entry)) .bytes) ⌝ }
+{
+    let sets = card.sets;
+    let f = compare_places(sets, d);
+    head(fresh, out);
+    let at = f.at;
+    if at < 8 {
+        let k = sets[at];
+        let id = k.id;
+        let div = card.div_data;
+        let rnd1 = octets::block_at(fresh, 0);
+        str1(id.0, div, rnd1, out);
+        return Initial {
+            handle: k.handle,
+            comparisons: f.count,
+            length: 256,
+            sum: f.sum,
+            session: Session {
+                opened: true,
+                id: id,
+                rnd1: rnd1,
+            },
+        };
+    }
+    octets::copy_at(out, 206, first_fifty(fresh));
+    Initial {
+        handle: card.shill_handle,
+        comparisons: f.count,
+        length: 256,
+        sum: f.sum,
+        session: Session::none(),
+    }
+}

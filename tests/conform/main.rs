@@ -1,0 +1,159 @@
+//! Reads lines in the form of the published transcripts from standard input, runs each on the proved library, and writes it again with
+//! the result that the library gives. What stands behind `=>` is not looked at.
+//!
+//! A `load` line starts a new card; each `call` line gets the card as the call before left it. The output buffer is filled before a call,
+//! and `kept=no` stands at the line's end where a byte behind the answer changed. A line that cannot be read gets an error with its
+//! number, and the run goes on; the exit status is then 1.
+
+use std::collections::HashMap;
+use std::fmt::Write as _;
+use std::io::{BufRead, Write};
+
+mod plaid;
+use plaid::*;
+
+type Fields<'a> = HashMap<&'a str, &'a str>;
+
+/// What behind `word=` a line of this kind has to have, no more and no less.
+fn fields<'a>(line: &'a str, names: &[&str]) -> Result<Fields<'a>, String> {
+    let mut found = HashMap::new();
+    for word in line.split(' ').skip(1).filter(|w| !w.is_empty()) {
+        let (name, value) = word.split_once('=').ok_or(format!("'{word}' is not word=value"))?;
+        if !names.contains(&name) {
+            return Err(format!("unknown word '{name}'"));
+        }
+        if found.insert(name, value).is_some() {
+            return Err(format!("'{name}' stands twice"));
+        }
+    }
+    for name in names {
+        if !found.contains_key(name) {
+            return Err(format!("'{name}=' is missing"));
+        }
+    }
+    Ok(found)
+}
+
+fn bytes(text: &str) -> Result<Vec<u8>, String> {
+    if text == "-" {
+        return Ok(Vec::new());
+    }
+    if text.len() % 2 != 0 || !text.bytes().all(|b| b.is_ascii_hexdigit()) {
+        return Err(format!("'{text}' is not hexadecimal bytes"));
+    }
+    Ok((0..text.len()).step_by(2).map(|i| u8::from_str_radix(&text[i..i + 2], 16).unwrap()).collect())
+}
+
+fn sixteen(text: &str) -> Result<[u8; 16], String> {
+    bytes(text)?.try_into().map_err(|_| format!("'{text}' is not 16 bytes"))
+}
+
+fn number<T: std::str::FromStr>(text: &str) -> Result<T, String> {
+    text.parse().map_err(|_| format!("'{text}' is not a number in range"))
+}
+
+fn hex(b: &[u8]) -> String {
+    if b.is_empty() {
+        return "-".to_string();
+    }
+    b.iter().fold(String::new(), |mut s, x| {
+        let _ = write!(s, "{x:02x}");
+        s
+    })
+}
+
+/// The parts of a list, none for `-`.
+fn parts(text: &str) -> Vec<&str> {
+    if text == "-" { Vec::new() } else { text.split(',').collect() }
+}
+
+fn key_set(text: &str) -> Result<KeySet, String> {
+    match text.split(':').collect::<Vec<_>>()[..] {
+        [id, handle, key] => Ok(KeySet { id: number(id)?, handle: number(handle)?, fa_key: sixteen(key)? }),
+        _ => Err(format!("'{text}' is not KeySetID:handle:FAKey")),
+    }
+}
+
+fn mode(text: &str) -> Result<Mode, String> {
+    match text.split(':').collect::<Vec<_>>()[..] {
+        [id, start, len] => Ok(Mode { id: number(id)?, start: number(start)?, len: number(len)? }),
+        _ => Err(format!("'{text}' is not OpModeID:start:length")),
+    }
+}
+
+fn load(line: &str) -> Result<(Option<Card>, String), String> {
+    let f = fields(line, &["sets", "modes", "area", "div", "shill_key", "shill_handle"])?;
+    let sets = parts(f["sets"]).into_iter().map(key_set).collect::<Result<Vec<_>, _>>()?;
+    let modes = parts(f["modes"]).into_iter().map(mode).collect::<Result<Vec<_>, _>>()?;
+    let area = bytes(f["area"])?;
+    let r = run_load(&sets, &modes, &area, sixteen(f["div"])?, sixteen(f["shill_key"])?, number(f["shill_handle"])?);
+    let result = format!("number={} reply_size={}", r.number, r.card.reply_size);
+    Ok((if r.number == 0 { Some(r.card) } else { None }, result))
+}
+
+fn call(line: &str, card: &mut Option<Card>) -> Result<String, String> {
+    let f = fields(line, &["command", "fresh", "out"])?;
+    let command = bytes(f["command"])?;
+    let fresh = bytes(f["fresh"])?;
+    let size: usize = number(f["out"])?;
+    if size > 1 << 20 {
+        return Err(format!("'{size}' bytes of output are more than this program lends"));
+    }
+    let held = card.ok_or("a call with no loaded card before it")?;
+    let fill: Vec<u8> = (0..size).map(|i| (i * 167 + 91) as u8).collect();
+    let mut out = fill.clone();
+    let r = run_command(held, &command, &fresh, &mut out);
+    let a = r.answer;
+    *card = Some(r.card);
+    let end = a.length.min(size);
+    let session = r.card.session;
+    let after = if session.opened { format!("{}:{}", session.id, hex(&session.rnd1)) } else { "-".to_string() };
+    let mut s = format!(
+        "number={} status={} comparisons={} decipherments={} encipherments={} expansions={} hash_blocks={} length={} handle={} sum={} answer={} session={}",
+        a.number, a.status, a.comparisons, a.decipherments, a.encipherments, a.expansions, a.hash_blocks, a.length, a.handle, a.sum, hex(&out[..end]), after
+    );
+    if out[end..] != fill[end..] {
+        s.push_str(" kept=no");
+    }
+    Ok(s)
+}
+
+fn main() {
+    let mut card: Option<Card> = None;
+    let mut failed = false;
+    let stdout = std::io::stdout();
+    let mut out = std::io::BufWriter::new(stdout.lock());
+    for (i, line) in std::io::stdin().lock().lines().enumerate() {
+        let line = match line {
+            Ok(l) => l,
+            Err(e) => {
+                eprintln!("line {}: {e}", i + 1);
+                std::process::exit(2);
+            }
+        };
+        let question = line.split(" =>").next().unwrap().trim_end();
+        if question.is_empty() || question.starts_with('#') {
+            writeln!(out, "{line}").unwrap();
+            continue;
+        }
+        let result = match question.split(' ').next().unwrap() {
+            "load" => load(question).map(|(c, s)| {
+                card = c;
+                s
+            }),
+            "call" => call(question, &mut card),
+            other => Err(format!("'{other}' is neither load nor call")),
+        };
+        match result {
+            Ok(s) => writeln!(out, "{question} => {s}").unwrap(),
+            Err(e) => {
+                failed = true;
+                writeln!(out, "{question} => error: line {}: {e}", i + 1).unwrap();
+            }
+        }
+    }
+    out.flush().unwrap();
+    if failed {
+        std::process::exit(1);
+    }
+}

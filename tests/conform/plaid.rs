@@ -1,0 +1,127 @@
+//! The library's structs and functions, declared again for Rust. Nothing checks these declarations against the Rattle source but the runs.
+
+#[repr(C)]
+#[derive(Clone, Copy)]
+pub struct KeySet {
+    pub id: u16,
+    pub handle: u8,
+    pub fa_key: [u8; 16],
+}
+
+#[repr(C)]
+#[derive(Clone, Copy)]
+pub struct Mode {
+    pub id: u16,
+    pub start: usize,
+    pub len: usize,
+}
+
+#[repr(C)]
+#[derive(Clone, Copy)]
+pub struct KeySetSlot {
+    pub held: bool,
+    pub id: u16,
+    pub handle: u8,
+    pub fa_key: [u8; 16],
+}
+
+#[repr(C)]
+#[derive(Clone, Copy)]
+pub struct ModeSlot {
+    pub held: bool,
+    pub id: u16,
+    pub start: usize,
+    pub len: usize,
+}
+
+#[repr(C)]
+#[derive(Clone, Copy)]
+pub struct Session {
+    pub opened: bool,
+    pub id: u16,
+    pub rnd1: [u8; 16],
+}
+
+#[repr(C)]
+#[derive(Clone, Copy)]
+pub struct Card {
+    pub sets: [KeySetSlot; 8],
+    pub modes: [ModeSlot; 16],
+    pub area: [u8; 1024],
+    pub div_data: [u8; 16],
+    pub shill_key: [u8; 16],
+    pub shill_handle: u8,
+    pub reply_size: usize,
+    pub session: Session,
+}
+
+#[repr(C)]
+#[derive(Clone, Copy)]
+pub struct Answer {
+    pub number: u8,
+    pub status: u16,
+    pub comparisons: usize,
+    pub decipherments: usize,
+    pub encipherments: usize,
+    pub expansions: usize,
+    pub hash_blocks: usize,
+    pub length: usize,
+    pub handle: u8,
+    pub sum: u32,
+}
+
+#[repr(C)]
+#[derive(Clone, Copy)]
+pub struct Outcome {
+    pub answer: Answer,
+    pub card: Card,
+}
+
+#[repr(C)]
+#[derive(Clone, Copy)]
+pub struct Given {
+    pub sets: [KeySet; 8],
+    pub set_count: usize,
+    pub modes: [Mode; 16],
+    pub mode_count: usize,
+    pub div_data: [u8; 16],
+    pub shill_key: [u8; 16],
+    pub shill_handle: u8,
+}
+
+#[repr(C)]
+#[derive(Clone, Copy)]
+pub struct Loaded {
+    pub number: u8,
+    pub card: Card,
+}
+
+#[link(name = "plaid", kind = "static")]
+unsafe extern "C" {
+    fn plaid_load(given: Given, area: *const u8, area_len: usize) -> Loaded;
+    fn plaid_command(card: Card, command: *const u8, command_len: usize, fresh: *const u8, fresh_len: usize, out: *mut u8, out_len: usize) -> Outcome;
+}
+
+/// A load of any number of key sets and modes: the library looks at the counts, and at no more than the first eight and sixteen.
+pub fn run_load(sets: &[KeySet], modes: &[Mode], area: &[u8], div_data: [u8; 16], shill_key: [u8; 16], shill_handle: u8) -> Loaded {
+    let mut given = Given {
+        sets: [KeySet { id: 0, handle: 0, fa_key: [0; 16] }; 8],
+        set_count: sets.len(),
+        modes: [Mode { id: 0, start: 0, len: 0 }; 16],
+        mode_count: modes.len(),
+        div_data,
+        shill_key,
+        shill_handle,
+    };
+    for (to, from) in given.sets.iter_mut().zip(sets) {
+        *to = *from;
+    }
+    for (to, from) in given.modes.iter_mut().zip(modes) {
+        *to = *from;
+    }
+    unsafe { plaid_load(given, area.as_ptr(), area.len()) }
+}
+
+pub fn run_command(card: Card, command: &[u8], fresh: &[u8], out: &mut [u8]) -> Outcome {
+    unsafe { plaid_command(card, command.as_ptr(), command.len(), fresh.as_ptr(), fresh.len(), out.as_mut_ptr(), out.len()) }
+}
