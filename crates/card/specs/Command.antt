@@ -32,7 +32,7 @@ told r =
       «hash_blocks» = counted hashBlock (r .steps);
       length = length (r .bytes);
       handle = r .handle;
-      sum = workSum (r .steps)
+      sum = workSum (r .steps);
     }
 
 -- a decline, "with .. counts, length and key handle 0"; it "makes no steps", and "without steps the sum is 0"
@@ -48,7 +48,7 @@ declined v =
       «hash_blocks» = 0;
       length = 0;
       handle = 0;
-      sum = 0
+      sum = 0;
     }
 
 -- the verdict on a call, by its frame and its length

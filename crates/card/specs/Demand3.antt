@@ -41,8 +41,15 @@ initial-shape : (c : Card) (cmd fresh : List ℕ) → Sound c → length fresh �
     shapeOf (told (initialReply c (dataOf cmd) fresh)) ≡ initialShape (lcOf (frameOf cmd))
 initial-shape c cmd fresh s lf ld =
     let d : List ℕ = dataOf cmd in
-    rw (initial-counted comparison c d fresh (s .sets), initial-counted decipherment c d fresh (s .sets), initial-counted encipherment c d fresh (s .sets),
-      initial-counted expansion c d fresh (s .sets), initial-counted hashBlock c d fresh (s .sets), initial-length c d fresh (s .div) lf, ld)
+    rw (
+      initial-counted comparison c d fresh (s .sets),
+      initial-counted decipherment c d fresh (s .sets),
+      initial-counted encipherment c d fresh (s .sets),
+      initial-counted expansion c d fresh (s .sets),
+      initial-counted hashBlock c d fresh (s .sets),
+      initial-length c d fresh (s .div) lf,
+      ld,
+    )
     (shapes (lcOf (frameOf cmd)))
   where
     shapes : (lc : ℕ) → _≡_ {A = Shape} (record { number = 0; status = 0x9000; comparisons = 8 * (lc / 4) * 1; decipherments = 8 * (lc / 4) * 0; encipherments = 8 * (lc / 4) * 0; expansions = 8 * (lc / 4) * 0; hashBlocks = 8 * (lc / 4) * 0; size = 256 }) (initialShape lc)
@@ -56,8 +63,16 @@ final-shape : (c : Card) (cmd fresh : List ℕ) → Sound c → length (dataOf c
 final-shape c cmd fresh s ld =
     let d : List ℕ = dataOf cmd in
     let lr = rnd1-length c (s .rnd1) in
-    rw (final-comparisons c d fresh (s .modes) lr, final-decipherments c d fresh (s .modes) lr, final-encipherments c d fresh (s .modes) lr,
-      final-expansions c d fresh (s .modes) lr, final-hash-blocks c d fresh (s .modes) lr, final-length c d fresh, size-loaded c (s .size), ld)
+    rw (
+      final-comparisons c d fresh (s .modes) lr,
+      final-decipherments c d fresh (s .modes) lr,
+      final-encipherments c d fresh (s .modes) lr,
+      final-expansions c d fresh (s .modes) lr,
+      final-hash-blocks c d fresh (s .modes) lr,
+      final-length c d fresh,
+      size-loaded c (s .size),
+      ld,
+    )
 
 -- one call
 module _ (c : Card) (cmd fresh : List ℕ) (room : ℕ) where
@@ -150,7 +165,7 @@ module _ (c : Card) (s : Session) (x : Call) where
 
   sum-cases : (t : Bool) →
       cond {A = Outcome} t (record { answer = told (replyTo (withSession c s) (x .command) (x .fresh)); card = withSession (withSession c s) (replyTo (withSession c s) (x .command) (x .fresh) .session) })
-        (record { answer = declined (verdictOn (x .command) (x .fresh) (x .room)); card = withSession c s }) .answer .sum
+      (record { answer = declined (verdictOn (x .command) (x .fresh) (x .room)); card = withSession c s }) .answer .sum
       ≡ workSum (cond (not t) [] (replyTo (withSession c s) (x .command) (x .fresh) .steps))
   sum-cases true = refl
   sum-cases false = refl
@@ -183,7 +198,7 @@ place c xs ys x o e =
     ap (λ (s : Session). getD (run (withSession c s) (xs ++ (x ∷ ys))) (length xs) o) e
     ∙ ap (λ (l : List Outcome). getD l (length xs) o) (run-append c noSession xs (x ∷ ys))
     ∙ getD-at (run (withSession c noSession) xs) (outcomeOf (withSession c (sessionAfter c noSession xs)) x) (run (outcomeOf (withSession c (sessionAfter c noSession xs)) x .card) ys) o (length xs)
-      (length-run (withSession c noSession) xs)
+    (length-run (withSession c noSession) xs)
 
 -- two lists that agree
 formulas-alike : (b : ℕ) {x y : Call} → Alike x y → formulasOf b x ≡ formulasOf b y
@@ -250,7 +265,7 @@ unfolding ok sizeOf
 same-answer c e x y g a n m =
     record {
       bytes = refused-bytes c x n ∙ rw (a .frames, a .lengths, a .fresh, a .rooms, g .key, g .size) (sym (refused-bytes e y m));
-      handle = refused-handle c x n ∙ rw (a .frames, a .lengths, a .fresh, a .rooms, g .handle) (sym (refused-handle e y m))
+      handle = refused-handle c x n ∙ rw (a .frames, a .lengths, a .fresh, a .rooms, g .handle) (sym (refused-handle e y m));
     }
 
 agree-kept : (c e : Card) (x y : Call) → Agree c e → Agree (outcomeOf c x .card) (outcomeOf e y .card)

@@ -79,7 +79,7 @@ shapeOf a =
       encipherments = a .encipherments;
       expansions = a .expansions;
       hashBlocks = a .«hash_blocks»;
-      size = a .length
+      size = a .length;
     }
 
 -- "Initial: 8 times floor(Lc/4) comparisons, the rest 0. .. Answer length: 256 .. Status: 9000."

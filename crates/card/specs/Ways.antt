@@ -48,9 +48,9 @@ module _ (c : Card) (cmd fresh o : List ℕ) (v : Verdict) (q : v ≡ verdictOn 
       (z ≡ outcome c cmd fresh (length o)) × (e ≡ over o 0 (answerBytes c cmd fresh (length o)))
   unfolding outcome answerBytes replyTo
   by-initial e d r z s l qd qi qr qe qz =
-      let i : eqb (insOf (frameOf cmd)) 0x87 ≡ true = eq-eqb (insOf (frameOf cmd)) 0x87 (command-ins cmd ∙ qi) in
-      ( qz ∙ rw (passes s, i, ← qd, qr, other-none decipherment refl d l, other-none encipherment refl d l, other-none expansion refl d l, other-none hashBlock refl d l)
-      , rw (passes s, i, ← qd) qe
+      let i : eqb (insOf (frameOf cmd)) 0x87 ≡ true = eq-eqb (insOf (frameOf cmd)) 0x87 (command-ins cmd ∙ qi) in (
+        qz ∙ rw (passes s, i, ← qd, qr, other-none decipherment refl d l, other-none encipherment refl d l, other-none expansion refl d l, other-none hashBlock refl d l),
+        rw (passes s, i, ← qd) qe,
       )
 
   final-told : (d : List ℕ) → _≡_ {A = Outcome} (afterFinal c (toldFinal (finalReply c d fresh))) (record { answer = told (finalReply c d fresh); card = withSession c (finalReply c d fresh .session) })
@@ -62,7 +62,7 @@ module _ (c : Card) (cmd fresh o : List ℕ) (v : Verdict) (q : v ≡ verdictOn 
       (z ≡ outcome c cmd fresh (length o)) × (e ≡ over o 0 (answerBytes c cmd fresh (length o)))
   unfolding outcome answerBytes replyTo
   by-final e d r z s qd qi qr qe qz =
-      let i : eqb (insOf (frameOf cmd)) 0x87 ≡ false = ne-eqb (insOf (frameOf cmd)) 0x87 (λ h. qi (sym (command-ins cmd) ∙ h)) in
-      ( qz ∙ ap (afterFinal c) qr ∙ rw (passes s, i, ← qd) (final-told d)
-      , rw (passes s, i, ← qd) qe
+      let i : eqb (insOf (frameOf cmd)) 0x87 ≡ false = ne-eqb (insOf (frameOf cmd)) 0x87 (λ h. qi (sym (command-ins cmd) ∙ h)) in (
+        qz ∙ ap (afterFinal c) qr ∙ rw (passes s, i, ← qd) (final-told d),
+        rw (passes s, i, ← qd) qe,
       )

@@ -1,11 +1,11 @@
 //! A command call on a card: the checks of the call, then the initial or the final command.
-use plaid_types::Card;
-use plaid_types::Answer;
-use plaid_types::Outcome;
-use plaid_types::Session;
+use final_command::Final;
 use frame::Verdict;
 use initial::Initial;
-use final_command::Final;
+use plaid_types::Answer;
+use plaid_types::Card;
+use plaid_types::Outcome;
+use plaid_types::Session;
 ghost use mathlib.Core.Path.{_≡_};
 ghost use Prim.Native.Nat.{_-_, _≤_};
 ghost use lib.ListN.{length};

@@ -58,9 +58,9 @@ deciphered-same key d z t y inv n sum m e qt qm qy =
     let p : y ++ drop n t ≡ over z 0 (decrypted inv zeros (blocksIn d) d) = buffer-decrypted d (take n d) n (blocksIn d) e h refl z t y inv zeros qt qy in
     let f : take n t ≡ take n d = buffer-front d (take n d) n (blocksIn d) e h refl z t qt in
     let q : m ≡ made decipherment sum (deciphered key inv (blocksIn d) d) =
-          qm
-          ∙ ap (λ (a : List ℕ). made decipherment sum (deciphered key inv (length a / 16) a)) f
-          ∙ ap (made decipherment sum) (front-deciphered d (take n d) n (blocksIn d) e h refl key inv) in
+    qm
+    ∙ ap (λ (a : List ℕ). made decipherment sum (deciphered key inv (length a / 16) a)) f
+    ∙ ap (made decipherment sum) (front-deciphered d (take n d) n (blocksIn d) e h refl key inv) in
     λ i. record { text = p i; count = q i .count; sum = q i .sum }
 
 -- up to the hash
@@ -81,20 +81,20 @@ opened-same c d fa rnd hash k e rows t h qfa qk qe qrows qt qrnd qh qhash =
     let s₁ : k .sum ≡ sumFrom 0 (divSteps (faKeyOf c) div) = ap (λ (r : Diversified). r .sum) qk ∙ ap (λ (x : List ℕ). sumFrom 0 (divSteps x div)) qfa in
     let ks : rows ≡ roundKeys 4 (diversified c) = qrows ∙ ap (λ (r : Expanded). r .rows) qe ∙ ap (roundKeys 4) key in
     let s₂ : e .sum ≡ sumFrom (sumFrom 0 (divSteps (faKeyOf c) div)) (expansionStep (diversified c) ∷ []) =
-          ap (λ (r : Expanded). r .sum) qe ∙ ap₂ (λ (s : ℕ) (x : List ℕ). sumFrom s (expansionStep x ∷ [])) s₁ key in
+    ap (λ (r : Expanded). r .sum) qe ∙ ap₂ (λ (s : ℕ) (x : List ℕ). sumFrom s (expansionStep x ∷ [])) s₁ key in
     let text : t .text ≡ textOf c d = ap (λ (r : Deciphered). r .text) qt ∙ ap (λ (w : List (List ℕ)). over (replicate 240 0) 0 (decrypted (invCipher 10 w) zeros (blocksIn d) d)) ks in
     let made : deciphered (k .key) (invCipher 10 rows) (blocksIn d) d ≡ deciphered (diversified c) (invAes 4 (diversified c)) (blocksIn d) d =
-          ap₂ (λ (x : List ℕ) (w : List (List ℕ)). deciphered x (invCipher 10 w) (blocksIn d) d) key ks in
+    ap₂ (λ (x : List ℕ) (w : List (List ℕ)). deciphered x (invCipher 10 w) (blocksIn d) d) key ks in
     let m : rnd ++ part (t .text) 2 16 ≡ hashedOf c d = ap₂ (λ (x y : List ℕ). x ++ part y 2 16) qrnd text in
     let s₄ : h .sum ≡ sumFrom 0 (textSteps c d) =
-          ap (λ (r : Hashing). r .sum) qh
-          ∙ ap₂ (λ (s : ℕ) (x : List ℕ). sumFrom s (hashSteps x)) (ap (λ (r : Deciphered). r .sum) qt ∙ ap₂ sumFrom s₂ made) m
-          ∙ sym (sum-four 0 (divSteps (faKeyOf c) div) (expansionStep (diversified c) ∷ []) (deciphered (diversified c) (invAes 4 (diversified c)) (blocksIn d) d) (hashSteps (hashedOf c d))) in
+    ap (λ (r : Hashing). r .sum) qh
+    ∙ ap₂ (λ (s : ℕ) (x : List ℕ). sumFrom s (hashSteps x)) (ap (λ (r : Deciphered). r .sum) qt ∙ ap₂ sumFrom s₂ made) m
+    ∙ sym (sum-four 0 (divSteps (faKeyOf c) div) (expansionStep (diversified c) ∷ []) (deciphered (diversified c) (invAes 4 (diversified c)) (blocksIn d) d) (hashSteps (hashedOf c d))) in
     let digest : hash ≡ keysHash c d = qhash ∙ ap (λ (x : List ℕ). part x 0 16) (ap (λ (r : Hashing). r .digest) qh ∙ ap sha256 m) in
     let n₁ : t .count ≡ counted decipherment (textSteps c d) = ap (λ (r : Deciphered). r .count) qt ∙ ap (counted decipherment) made ∙ text-decipherments c d in
     let n₂ : k .encipherments ≡ counted encipherment (textSteps c d) = ap (λ (r : Diversified). r .encipherments) qk ∙ sym (text-encipherments c d) in
     let n₃ : k .expansions + e .count ≡ counted expansion (textSteps c d) =
-          ap₂ _+_ (ap (λ (r : Diversified). r .expansions) qk) (ap (λ (r : Expanded). r .count) qe) ∙ sym (text-expansions c d) in
+    ap₂ _+_ (ap (λ (r : Diversified). r .expansions) qk) (ap (λ (r : Expanded). r .count) qe) ∙ sym (text-expansions c d) in
     let n₄ : h .count ≡ counted hashBlock (textSteps c d) = ap (λ (r : Hashing). r .count) qh ∙ ap (λ (x : List ℕ). counted hashBlock (hashSteps x)) m ∙ text-hash-blocks c d in
     λ i. record { text = text i; hash = digest i; decipherments = n₁ i; encipherments = n₂ i; expansions = n₃ i; «hash_blocks» = n₄ i; sum = s₄ i }
 
@@ -117,20 +117,20 @@ module _ (key key′ b y o o′ : List ℕ) (rows : List (List ℕ)) (size size�
   sent-same qm =
       let steps : List Step = enciphered key (aes 4 key) zeros size b in
       let q : m ≡ made encipherment (sumFrom sum (expansionStep key ∷ [])) steps =
-            qm
-            ∙ ap₂ (λ (s : ℕ) (f : List ℕ → List ℕ). made encipherment s (enciphered key f zeros (length (take n b) / 16) (take n b))) (ap (λ (r : Expanded). r .sum) qe) ciph-is
-            ∙ ap (made encipherment (sumFrom sum (expansionStep key ∷ []))) (front-enciphered b (take n b) n size qn within refl key (aes 4 key) zeros) in
+      qm
+      ∙ ap₂ (λ (s : ℕ) (f : List ℕ → List ℕ). made encipherment s (enciphered key f zeros (length (take n b) / 16) (take n b))) (ap (λ (r : Expanded). r .sum) qe) ciph-is
+      ∙ ap (made encipherment (sumFrom sum (expansionStep key ∷ []))) (front-enciphered b (take n b) n size qn within refl key (aes 4 key) zeros) in
       let n₁ : m .count ≡ counted encipherment (replySteps key size b) = ap (λ (r : Made). r .count) q ∙ counted-enciphered key (aes 4 key) size zeros b ∙ sym (reply-encipherments key size b) in
       let n₂ : e .count ≡ counted expansion (replySteps key size b) = ap (λ (r : Expanded). r .count) qe ∙ sym (reply-expansions key size b) in
       let s : m .sum ≡ sumFrom sum (replySteps key size b) = ap (λ (r : Made). r .sum) q ∙ sym (sumFrom-append sum (expansionStep key ∷ []) steps) in
       let a : _≡_ {A = Sent} (record { encipherments = m .count; expansions = e .count; length = n; sum = m .sum }) (sent key size b sum) =
-            λ i. record { encipherments = n₁ i; expansions = n₂ i; length = qn i; sum = s i } in
+      λ i. record { encipherments = n₁ i; expansions = n₂ i; length = qn i; sum = s i } in
       a ∙ (λ i. sent (qk i) (qs i) (buffer-is i) sum)
 
   pub bytes-same : y ≡ encryptedWhole (cipher 10 rows) zeros (take n b) → o′ ≡ over o 0 (take n (y ++ drop n b)) → o′ ≡ over o 0 (encrypted (aes 4 key′) zeros size′ (buffer size′))
   bytes-same qy qo =
       let v : take n (y ++ drop n b) ≡ encrypted (aes 4 key) zeros size b =
-            buffer-encrypted b (take n b) n size qn within refl y (aes 4 key) zeros (length-aes key) (qy ∙ ap (λ (f : List ℕ → List ℕ). encryptedWhole f zeros (take n b)) ciph-is) in
+      buffer-encrypted b (take n b) n size qn within refl y (aes 4 key) zeros (length-aes key) (qy ∙ ap (λ (f : List ℕ → List ℕ). encryptedWhole f zeros (take n b)) ciph-is) in
       qo ∙ ap (over o 0) v ∙ (λ i. over o 0 (encrypted (aes 4 (qk i)) zeros (qs i) (buffer-is i)))
 
 -- the whole
@@ -203,16 +203,16 @@ module _ (c : Card) (d fresh : List ℕ) where
         let z : s ≡ sent key (sizeOf c) b (f .sum) = qs ∙ ap₂ (λ (x y : List ℕ). sent x (sizeOf c) y (f .sum)) key-is buffer-same in
         let fc : f .count ≡ counted comparison (modeSteps (opMode (textOf c d)) (c .modes)) = ap (λ (r : Found). r .count) qf ∙ ap (λ (x : ℕ). counted comparison (modeSteps x (c .modes))) value-is in
         let fs : f .sum ≡ sumFrom (sumFrom 0 (textSteps c d)) (modeSteps (opMode (textOf c d)) (c .modes)) =
-              ap (λ (r : Found). r .sum) qf ∙ ap₂ (λ (r : Opened) (x : ℕ). sumFrom (r .sum) (modeSteps x (c .modes))) qo value-is in
+        ap (λ (r : Found). r .sum) qf ∙ ap₂ (λ (r : Opened) (x : ℕ). sumFrom (r .sum) (modeSteps x (c .modes))) qo value-is in
         let n₁ : f .count ≡ counted comparison (finalReply c d fresh .steps) = omega (arith, fc, count-are comparison, text-comparisons c d, reply-comparisons key (sizeOf c) b) in
         let n₂ : o .decipherments ≡ counted decipherment (finalReply c d fresh .steps) =
-              omega (arith, ap (λ (r : Opened). r .decipherments) qo, count-are decipherment, no-modes decipherment refl, reply-decipherments key (sizeOf c) b) in
+        omega (arith, ap (λ (r : Opened). r .decipherments) qo, count-are decipherment, no-modes decipherment refl, reply-decipherments key (sizeOf c) b) in
         let n₃ : o .encipherments + s .encipherments ≡ counted encipherment (finalReply c d fresh .steps) =
-              omega (arith, ap (λ (r : Opened). r .encipherments) qo, ap (λ (r : Sent). r .encipherments) z, count-are encipherment, no-modes encipherment refl) in
+        omega (arith, ap (λ (r : Opened). r .encipherments) qo, ap (λ (r : Sent). r .encipherments) z, count-are encipherment, no-modes encipherment refl) in
         let n₄ : o .expansions + s .expansions ≡ counted expansion (finalReply c d fresh .steps) =
-              omega (arith, ap (λ (r : Opened). r .expansions) qo, ap (λ (r : Sent). r .expansions) z, count-are expansion, no-modes expansion refl) in
+        omega (arith, ap (λ (r : Opened). r .expansions) qo, ap (λ (r : Sent). r .expansions) z, count-are expansion, no-modes expansion refl) in
         let n₅ : o .«hash_blocks» ≡ counted hashBlock (finalReply c d fresh .steps) =
-              omega (arith, ap (λ (r : Opened). r .«hash_blocks») qo, count-are hashBlock, no-modes hashBlock refl, reply-hash-blocks key (sizeOf c) b) in
+        omega (arith, ap (λ (r : Opened). r .«hash_blocks») qo, count-are hashBlock, no-modes hashBlock refl, reply-hash-blocks key (sizeOf c) b) in
         let l : s .length ≡ length (finalReply c d fresh .bytes) = ap (λ (r : Sent). r .length) z ∙ sym (final-length c d fresh) in
         let t : s .sum ≡ workSum (finalReply c d fresh .steps) = ap (λ (r : Sent). r .sum) z ∙ ap (λ (x : ℕ). sumFrom x (replySteps key (sizeOf c) b)) fs ∙ sum-are in
         λ i. record { comparisons = n₁ i; decipherments = n₂ i; encipherments = n₃ i; expansions = n₄ i; «hash_blocks» = n₅ i; length = l i; sum = t i }

@@ -3,7 +3,6 @@ use plaid_types::Card;
 use plaid_types::KeySetSlot;
 use plaid_types::ModeSlot;
 use plaid_types::OpModeId;
-
 ghost use mathlib.Core.Path.{_≡_};
 ghost use mathlib.Core.Bool.{cond, true, _&&_};
 ghost use mathlib.Core.List.{_++_};
@@ -264,13 +263,7 @@ fn lesser(a: usize, b: usize) -> usize
 }
 
 // What is enciphered starts as a part of the record area or as a part of the fresh bytes.
-fn source<'a>(
-    accepted: bool,
-    area: &'a [u8],
-    mode: ModeSlot,
-    fresh: &'a [u8],
-    n: usize,
-) -> &'a [u8]
+fn source<'a>(accepted: bool, area: &'a [u8], mode: ModeSlot, fresh: &'a [u8], n: usize) -> &'a [u8]
     requires { ⌜ n ≤ length (now fresh) ⌝ }
     ensures { λ r. ⌜ now r ≡ cond accepted (recordOf (now (area .entry)) mode) (part (now (fresh .entry)) 0 n) ⌝ }
 {

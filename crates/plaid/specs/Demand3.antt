@@ -58,7 +58,7 @@ module _ (g : Given) (area : List ℕ) (t : Typed g) (ok : loadOf g area .number
         modes = l .stocked .modes-long;
         div = l .stocked .div-long;
         rnd1 = ap (λ (s : Session). length (s .rnd1)) (l .no-session);
-        size = l .stocked .size-most
+        size = l .stocked .size-most;
       }
 
   -- at every place: length, status and the five counts are document 01's formulas of frame, length and reply size

@@ -1,9 +1,9 @@
 //! The C interface: structs by value and lent slices. A slice passes as a pointer and then a length.
+use load::Loaded;
 use plaid_types::Card;
 use plaid_types::KeySet;
 use plaid_types::Mode;
 use plaid_types::Outcome;
-use load::Loaded;
 ghost use mathlib.Core.Path.{_≡_};
 ghost use lib.ListN.{length};
 ghost use Rattle.octets.specs.Lists.{over};
@@ -30,7 +30,16 @@ pub extern "C" fn plaid_load(given: Given, area: &[u8]) -> Loaded
     let modes = given.modes;
     let div_data = given.div_data;
     let shill_key = given.shill_key;
-    load::load(sets, given.set_count, modes, given.mode_count, area, div_data, shill_key, given.shill_handle)
+    load::load(
+        sets,
+        given.set_count,
+        modes,
+        given.mode_count,
+        area,
+        div_data,
+        shill_key,
+        given.shill_handle,
+    )
 }
 
 #[no_mangle]

@@ -28,21 +28,21 @@ data-of-requires : tie.Need-data-of-requires
 data-of-requires c κs =
     let a = c .before .before .before .before .before .args in
     let p : Passed (length (a .cmd .now)) (frameOf (a .cmd .now)) (a .fresh .now) (length (a .out .now)) =
-        passed (length (a .cmd .now)) (frameOf (a .cmd .now)) (a .fresh .now) (length (a .out .now)) (sym (ap (λ (v : Verdict). v .status) (c .before .check .ensures)) ∙ c .if1 .left) in
+    passed (length (a .cmd .now)) (frameOf (a .cmd .now)) (a .fresh .now) (length (a .out .now)) (sym (ap (λ (v : Verdict). v .status) (c .before .check .ensures)) ∙ c .if1 .left) in
     omega (arith, command-long (a .cmd .now) (p .frame))
 
 shared-slice-read-if2 : tie.Need-shared-slice-read-if2
 shared-slice-read-if2 c =
     let a = c .before .before .before .before .before .before .before .args in
     let p : Passed (length (a .cmd .now)) (frameOf (a .cmd .now)) (a .fresh .now) (length (a .out .now)) =
-        passed (length (a .cmd .now)) (frameOf (a .cmd .now)) (a .fresh .now) (length (a .out .now)) (sym (ap (λ (v : Verdict). v .status) (c .before .before .before .check .ensures)) ∙ c .before .before .if1 .left) in
+    passed (length (a .cmd .now)) (frameOf (a .cmd .now)) (a .fresh .now) (length (a .out .now)) (sym (ap (λ (v : Verdict). v .status) (c .before .before .before .check .ensures)) ∙ c .before .before .if1 .left) in
     omega (arith, command-long (a .cmd .now) (p .frame))
 
 run-requires : tie.Need-run-requires
 run-requires c κs =
     let a = c .before .before .before .before .before .before .before .before .before .args in
     let p : Passed (length (a .cmd .now)) (frameOf (a .cmd .now)) (a .fresh .now) (length (a .out .now)) =
-        passed (length (a .cmd .now)) (frameOf (a .cmd .now)) (a .fresh .now) (length (a .out .now)) (sym (ap (λ (v : Verdict). v .status) (c .before .before .before .before .before .check .ensures)) ∙ c .before .before .before .before .if1 .left) in
+    passed (length (a .cmd .now)) (frameOf (a .cmd .now)) (a .fresh .now) (length (a .out .now)) (sym (ap (λ (v : Verdict). v .status) (c .before .before .before .before .before .check .ensures)) ∙ c .before .before .before .before .if1 .left) in
     let lc : lcOf (frameOf (a .cmd .now)) < 256 = rw (frame-byte (a .cmd .now) 4 (omega arith)) (c .before .before .before .before .before .before .before .before .shared-slice-known .given 4 .fits) in
     let ld : length (dataOf (a .cmd .now)) < 256 = rw (data-long (a .cmd .now) (p .frame)) lc in
     (rw (c .before .before .before .data-of .ensures) ld, p .fresh-long, p .room-enough)
@@ -64,7 +64,7 @@ run-requires-2 : tie.Need-run-requires-2
 run-requires-2 c κs =
     let a = c .before .before .before .before .before .before .before .before .before .args in
     let p : Passed (length (a .cmd .now)) (frameOf (a .cmd .now)) (a .fresh .now) (length (a .out .now)) =
-        passed (length (a .cmd .now)) (frameOf (a .cmd .now)) (a .fresh .now) (length (a .out .now)) (sym (ap (λ (v : Verdict). v .status) (c .before .before .before .before .before .check .ensures)) ∙ c .before .before .before .before .if1 .left) in
+    passed (length (a .cmd .now)) (frameOf (a .cmd .now)) (a .fresh .now) (length (a .out .now)) (sym (ap (λ (v : Verdict). v .status) (c .before .before .before .before .before .check .ensures)) ∙ c .before .before .before .before .if1 .left) in
     let lc : lcOf (frameOf (a .cmd .now)) < 256 = rw (frame-byte (a .cmd .now) 4 (omega arith)) (c .before .before .before .before .before .before .before .before .shared-slice-known .given 4 .fits) in
     let ld : length (dataOf (a .cmd .now)) < 256 = rw (data-long (a .cmd .now) (p .frame)) lc in
     (rw (c .before .before .before .data-of .ensures) ld, p .fresh-long, p .room-enough)

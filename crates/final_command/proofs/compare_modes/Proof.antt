@@ -52,11 +52,12 @@ loop-again c =
     let l = c .before .before .before .before .before .before .loop in
     let a = c .before .before .before .before .before .before .before .args in
     let e = c .before .before .compare .ensures in
-    let h : l .i < length (a .t1) = omega arith in
-    (omega arith,
-    omega (arith, ap (λ r. r .count) e),
-    ap (λ r. sumFrom (r .sum) (modeSteps (a .v) (drop (l .i + 1) (a .t1)))) e ∙ sym (sum-turn (a .v) (a .t1) (l .i) (l .s) h) ∙ l .inv .2,
-    rw (c .keep .ensures, kept-next _ _ _ _ _ (c .before .before .before .before .before .loop-test .taken), ap (λ r. r .hit) e) (rw (first-turn (a .v) (a .t1) (l .i) h) at (l .inv .3)))
+    let h : l .i < length (a .t1) = omega arith in (
+      omega arith,
+      omega (arith, ap (λ r. r .count) e),
+      ap (λ r. sumFrom (r .sum) (modeSteps (a .v) (drop (l .i + 1) (a .t1)))) e ∙ sym (sum-turn (a .v) (a .t1) (l .i) (l .s) h) ∙ l .inv .2,
+      rw (c .keep .ensures, kept-next _ _ _ _ _ (c .before .before .before .before .before .loop-test .taken), ap (λ r. r .hit) e) (rw (first-turn (a .v) (a .t1) (l .i) h) at (l .inv .3)),
+    )
 
 returns : tie.Need-returns Inv-loop μ-loop
 returns c =

@@ -51,9 +51,9 @@ returns c =
     let r : length (a .t1) ≡ 16 = omega arith in
     let t : length (a .t2) ≡ 240 = omega arith in
     let m : c .before .before .before .copy-at2 .last .0 ≡ a .t1 ++ x =
-          c .before .before .before .copy-at2 .ensures
-          ∙ ap (λ (b : List ℕ). over b 16 x) (c .before .before .before .before .before .before .before .before .copy-at .ensures)
-          ∙ over-both (replicate 32 0) (a .t1) x 16 r (omega (arith, length-part (a .t2) 2 16 (omega arith))) in
+    c .before .before .before .copy-at2 .ensures
+    ∙ ap (λ (b : List ℕ). over b 16 x) (c .before .before .before .before .before .before .before .before .copy-at .ensures)
+    ∙ over-both (replicate 32 0) (a .t1) x 16 r (omega (arith, length-part (a .t2) 2 16 (omega arith))) in
     c .hash .ensures ∙ ap (λ (b : List ℕ). record { digest = sha256 b; count = counted hashBlock (hashSteps b); sum = sumFrom (a .sum) (hashSteps b) }) m
 
 pub hashed-spec : {M : Type 1} → statement M

@@ -73,9 +73,10 @@ returns c =
     let a = c .before .before .before .before .before .before .before .before .before .before .before .before .before .before .before .before .before .before .before .before .args in
     let k = a .card in
     let b : length (c .before .before .before .before .before .before .before .before .before .before .reply-text .result) ≡ 96 = search (needs, c .before .before .before .before .before .before .before .before .before .before .reply-text .ok) in
-    let buffer : ℕ → List ℕ = λ n. bufferOf (replyText (a .accepted) (k .area) (a .mode) (k .«div_data») (a .fresh .now) n) in
-    (sent-same _ _ _ (c .before .before .before .before .before .before .encipher .last .1 .1 .1 .0) (a .out .now) (c .before .before .copy-at .last .0) _ _ _ _ (a .sum) buffer _ _ (c .before .before .before .before .before .before .before .before .before .before .before .before .before .before .choose .ensures) (c .before .before .before .before .before .before .before .before .before .before .before .before .before .expand .ensures) (c .before .before .before .before .before .before .before .before .before .before .before .before .round-keys .ensures) (c .before .before .before .before .before .before .before .before .before .before .before .lesser .ensures .0) (c .before .before .before .before .before .before .before .before .before .before .reply-text .ensures) b (c .before .before .before .before .before .before .before .before .before .before .before .lesser .ensures .2) refl (c .before .before .before .before .before .before .encipher .ensures .0),
-    bytes-same _ _ _ (c .before .before .before .before .before .before .encipher .last .1 .1 .1 .0) (a .out .now) (c .before .before .copy-at .last .0) _ _ _ _ (a .sum) buffer _ (c .before .before .before .before .before .before .encipher .result) (c .before .before .before .before .before .before .before .before .before .before .before .before .before .before .choose .ensures) (c .before .before .before .before .before .before .before .before .before .before .before .before .before .expand .ensures) (c .before .before .before .before .before .before .before .before .before .before .before .before .round-keys .ensures) (c .before .before .before .before .before .before .before .before .before .before .before .lesser .ensures .0) (c .before .before .before .before .before .before .before .before .before .before .reply-text .ensures) b (c .before .before .before .before .before .before .before .before .before .before .before .lesser .ensures .2) refl (c .before .before .before .before .before .before .encipher .ensures .1) (c .before .before .copy-at .ensures))
+    let buffer : ℕ → List ℕ = λ n. bufferOf (replyText (a .accepted) (k .area) (a .mode) (k .«div_data») (a .fresh .now) n) in (
+      sent-same _ _ _ (c .before .before .before .before .before .before .encipher .last .1 .1 .1 .0) (a .out .now) (c .before .before .copy-at .last .0) _ _ _ _ (a .sum) buffer _ _ (c .before .before .before .before .before .before .before .before .before .before .before .before .before .before .choose .ensures) (c .before .before .before .before .before .before .before .before .before .before .before .before .before .expand .ensures) (c .before .before .before .before .before .before .before .before .before .before .before .before .round-keys .ensures) (c .before .before .before .before .before .before .before .before .before .before .before .lesser .ensures .0) (c .before .before .before .before .before .before .before .before .before .before .reply-text .ensures) b (c .before .before .before .before .before .before .before .before .before .before .before .lesser .ensures .2) refl (c .before .before .before .before .before .before .encipher .ensures .0),
+      bytes-same _ _ _ (c .before .before .before .before .before .before .encipher .last .1 .1 .1 .0) (a .out .now) (c .before .before .copy-at .last .0) _ _ _ _ (a .sum) buffer _ (c .before .before .before .before .before .before .encipher .result) (c .before .before .before .before .before .before .before .before .before .before .before .before .before .before .choose .ensures) (c .before .before .before .before .before .before .before .before .before .before .before .before .before .expand .ensures) (c .before .before .before .before .before .before .before .before .before .before .before .before .round-keys .ensures) (c .before .before .before .before .before .before .before .before .before .before .before .lesser .ensures .0) (c .before .before .before .before .before .before .before .before .before .before .reply-text .ensures) b (c .before .before .before .before .before .before .before .before .before .before .before .lesser .ensures .2) refl (c .before .before .before .before .before .before .encipher .ensures .1) (c .before .before .copy-at .ensures),
+    )
 
 pub reply-spec : {M : Type 1} → statement M
 reply-spec =

@@ -45,9 +45,10 @@ same-length c = search needs
 
 returns : tie.Need-returns
 returns c =
-    let a = c .before .before .before .before .before .before .before .before .before .before .before .before .before .before .before .before .before .before .before .before .args in
-    (final-told (a .card) (a .d .now) (a .fresh .now) _ _ _ _ _ _ (c .before .before .before .before .before .before .before .before .before .before .before .before .before .before .open-text .ensures) (c .before .before .before .before .before .before .before .before .before .before .before .op-mode .ensures) (c .before .before .before .before .before .before .before .before .before .before .compare-modes .ensures) (c .before .before .before .before .before .before .before .before .before .accepts .ensures) (c .before .before .before .before .before .before .before .before .mode-at .ensures) (c .before .before .before .before .before .before .reply .ensures .0),
-    final-bytes (a .card) (a .d .now) (a .fresh .now) _ _ _ _ _ (c .before .before .before .before .before .before .reply .result) (c .before .before .before .before .before .before .before .before .before .before .before .before .before .before .open-text .ensures) (c .before .before .before .before .before .before .before .before .before .before .before .op-mode .ensures) (c .before .before .before .before .before .before .before .before .before .before .compare-modes .ensures) (c .before .before .before .before .before .before .before .before .before .accepts .ensures) (c .before .before .before .before .before .before .before .before .mode-at .ensures) (a .out .now) (c .before .before .before .before .before .before .reply .last .1 .1 .1 .1 .1 .1 .0) (c .before .before .before .before .before .before .reply .ensures .1))
+    let a = c .before .before .before .before .before .before .before .before .before .before .before .before .before .before .before .before .before .before .before .before .args in (
+      final-told (a .card) (a .d .now) (a .fresh .now) _ _ _ _ _ _ (c .before .before .before .before .before .before .before .before .before .before .before .before .before .before .open-text .ensures) (c .before .before .before .before .before .before .before .before .before .before .before .op-mode .ensures) (c .before .before .before .before .before .before .before .before .before .before .compare-modes .ensures) (c .before .before .before .before .before .before .before .before .before .accepts .ensures) (c .before .before .before .before .before .before .before .before .mode-at .ensures) (c .before .before .before .before .before .before .reply .ensures .0),
+      final-bytes (a .card) (a .d .now) (a .fresh .now) _ _ _ _ _ (c .before .before .before .before .before .before .reply .result) (c .before .before .before .before .before .before .before .before .before .before .before .before .before .before .open-text .ensures) (c .before .before .before .before .before .before .before .before .before .before .before .op-mode .ensures) (c .before .before .before .before .before .before .before .before .before .before .compare-modes .ensures) (c .before .before .before .before .before .before .before .before .before .accepts .ensures) (c .before .before .before .before .before .before .before .before .mode-at .ensures) (a .out .now) (c .before .before .before .before .before .before .reply .last .1 .1 .1 .1 .1 .1 .0) (c .before .before .before .before .before .before .reply .ensures .1),
+    )
 
 pub run-spec : {M : Type 1} → statement M
 run-spec =
