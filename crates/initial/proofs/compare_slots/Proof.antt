@@ -40,11 +40,11 @@ loop-less c = search needs
 
 loop-again : tie.Need-loop-again Inv-loop μ-loop
 loop-again c =
-    slots-turn _ _ _ _ (search needs) (c .before .before .before .before .before .loop-test .taken) (c .before .before .before .before .before .before .loop .inv) (c .before .before .compare .ensures)
+    slots-turn _ _ _ _ (search needs) (search needs) (c .before .before .before .before .before .before .loop .inv) (c .before .before .compare .ensures)
     (c .keep .ensures)
 
 returns : tie.Need-returns Inv-loop μ-loop
-returns c = slots-end _ _ _ (search needs) (c .loop-test .left) (c .before .loop .inv)
+returns c = slots-end _ _ _ (search needs) (search needs) (c .before .loop .inv)
 
 pub compare-slots-spec : {M : Type 1} → statement M
 compare-slots-spec =

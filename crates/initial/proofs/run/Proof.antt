@@ -45,7 +45,7 @@ returns c =
     (a .out .now)
     _
     ls
-    (c .before .before .before .before .before .before .before .before .if1 .taken)
+    (omega (arith, c .before .before .before .before .before .before .before .before .if1 .taken))
     (c .before .before .before .before .block-at .ensures)
     (c .before .before .before .before .before .before .before .before .before .before .before .head .ensures)
     (c .before .before .str1 .ensures)
@@ -78,7 +78,7 @@ returns-2 c =
     ld
     (c .before .before .before .before .before .before .before .before .before .before .before .compare-places .ensures)
     (a .out .now)
-    (c .before .before .before .before .before .before .if1 .left)
+    (omega (arith, c .before .before .before .before .before .before .if1 .left))
     (c .none .ensures)
     (c .before .before .before .before .first-fifty .ensures)
     (c .before .before .before .before .before .before .before .before .before .head .ensures)
