@@ -170,11 +170,11 @@ struct Found {
 fn compare_modes(modes: [ModeSlot; 16], v: u16, sum: u32) -> Found
     ensures { λ r. ⌜ r ≡ record { at = firstMode 0 v modes; count = counted comparison (modeSteps v modes); sum = sumFrom sum (modeSteps v modes) } ⌝ }
 {
-    let mut at: usize = 16;
+    let mut at = Card::MODES;
     let mut s = sum;
     let mut count: usize = 0;
     let mut i: usize = 0;
-    while i < 16 {
+    while i < Card::MODES {
         let k = modes[i];
         let w = k.id;
         let c = steps::compare(true, v, k.held, w.0, s);
@@ -269,7 +269,7 @@ fn source<'a>(accepted: bool, area: &'a [u8], mode: ModeSlot, fresh: &'a [u8], n
 {
     if accepted {
         let a = lesser(mode.start, area.len());
-        let most = lesser(mode.len, 64);
+        let most = lesser(mode.len, Card::RECORD);
         let e = a + lesser(most, area.len() - a);
         return &area[a..e];
     }

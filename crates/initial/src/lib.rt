@@ -1,4 +1,5 @@
 //! The initial command: the places of its list against the key sets of a card, and the block that answers it.
+use plaid_types::Answer;
 use plaid_types::Card;
 use plaid_types::KeySetSlot;
 use plaid_types::Session;
@@ -23,11 +24,11 @@ pub struct Found {
 fn compare_slots(sets: [KeySetSlot; 8], present: bool, v: u16, sum: u32) -> Found
     ensures { λ r. ⌜ r ≡ slotsFound present v sets sum ⌝ }
 {
-    let mut at: usize = 8;
+    let mut at = Card::KEY_SETS;
     let mut s = sum;
     let mut count: usize = 0;
     let mut i: usize = 0;
-    while i < 8 {
+    while i < Card::KEY_SETS {
         let k = sets[i];
         let w = k.id;
         let c = steps::compare(present, v, k.held, w.0, s);
@@ -64,7 +65,7 @@ fn compare_places(sets: [KeySetSlot; 8], d: &[u8]) -> Found
     let l = list::parse(d);
     let mut p = l.first;
     let n = d.len() / 4;
-    let mut at: usize = 8;
+    let mut at = Card::KEY_SETS;
     let mut s: u32 = 0;
     let mut count: usize = 0;
     let mut j: usize = 0;
@@ -142,7 +143,7 @@ pub fn run(card: Card, d: &[u8], fresh: &[u8], out: &mut [u8]) -> Initial
     let f = compare_places(sets, d);
     head(fresh, out);
     let at = f.at;
-    if at < 8 {
+    if at < Card::KEY_SETS {
         let k = sets[at];
         let id = k.id;
         let div = card.div_data;
@@ -151,7 +152,7 @@ pub fn run(card: Card, d: &[u8], fresh: &[u8], out: &mut [u8]) -> Initial
         return Initial {
             handle: k.handle,
             comparisons: f.count,
-            length: 256,
+            length: Answer::INITIAL,
             sum: f.sum,
             session: Session {
                 opened: true,
@@ -164,7 +165,7 @@ pub fn run(card: Card, d: &[u8], fresh: &[u8], out: &mut [u8]) -> Initial
     Initial {
         handle: card.shill_handle,
         comparisons: f.count,
-        length: 256,
+        length: Answer::INITIAL,
         sum: f.sum,
         session: Session::none(),
     }

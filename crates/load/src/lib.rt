@@ -122,7 +122,7 @@ fn bad_record(m: Mode, area: usize) -> bool
     if m.len == 0 {
         return true;
     }
-    if 64 < m.len {
+    if Card::RECORD < m.len {
         return true;
     }
     if area < m.len {
@@ -171,14 +171,14 @@ fn modes_fault(modes: [Mode; 16], n: usize, area: usize) -> u8
     if n == 0 {
         return 4;
     }
-    if 16 < n {
+    if Card::MODES < n {
         return 4;
     }
     let ids = mode_ids(modes);
     if repeats(&ids, n) {
         return 5;
     }
-    if 1024 < area {
+    if Card::AREA < area {
         return 6;
     }
     if bad_records(modes, n, area) {
@@ -196,7 +196,7 @@ fn fault(sets: [KeySet; 8], n: usize, modes: [Mode; 16], m: usize, area: usize, 
     if n == 0 {
         return 1;
     }
-    if 8 < n {
+    if Card::KEY_SETS < n {
         return 1;
     }
     let ids = set_ids(sets);
