@@ -2,7 +2,7 @@
 //! the result that the library gives. What stands behind `=>` is not looked at.
 //!
 //! A `load` line starts a new card; each `call` line gets the card as the call before left it. The output buffer is filled before a call,
-//! and `kept=no` stands at the line's end where a byte behind the answer changed. A line that cannot be read gets an error with its
+//! and `kept=no` stands at the line's end where a byte behind the answer changed. `list`, `open`, `seal` and `accept` lines are the reader's. A line that cannot be read gets an error with its
 //! number, and the run goes on; the exit status is then 1.
 
 use std::collections::HashMap;
@@ -91,21 +91,77 @@ fn load(line: &str) -> Result<(Option<Card>, String), String> {
     Ok((if r.number == 0 { Some(r.card) } else { None }, result))
 }
 
+/// An output buffer of so many bytes, each with a value of its own, so that a change shows.
+fn filled(text: &str) -> Result<Vec<u8>, String> {
+    let size: usize = number(text)?;
+    if size > 1 << 20 {
+        return Err(format!("'{size}' bytes of output are more than this program lends"));
+    }
+    Ok((0..size).map(|i| (i * 167 + 91) as u8).collect())
+}
+
+/// A buffer's first bytes in hexadecimal, and whether the others are as they were.
+fn written(out: &[u8], fill: &[u8], length: usize) -> (String, &'static str) {
+    let end = length.min(out.len());
+    (hex(&out[..end]), if out[end..] == fill[end..] { "" } else { " kept=no" })
+}
+
+fn ids(text: &str) -> Result<Vec<u16>, String> {
+    parts(text).into_iter().map(number).collect()
+}
+
+fn list(line: &str) -> Result<String, String> {
+    let f = fields(line, &["ids", "out"])?;
+    let fill = filled(f["out"])?;
+    let mut out = fill.clone();
+    let r = run_list(&ids(f["ids"])?, &mut out);
+    let (command, kept) = written(&out, &fill, r.length);
+    Ok(format!("number={} length={} command={command}{kept}", r.number, r.length))
+}
+
+fn open(line: &str) -> Result<String, String> {
+    let f = fields(line, &["ids", "blocks"])?;
+    let r = run_open(&ids(f["ids"])?, &bytes(f["blocks"])?);
+    if r.number != 0 {
+        return Ok(format!("number={}", r.number));
+    }
+    Ok(format!("number=0 place={} id={} div={} rnd1={}", r.place, r.id, hex(&r.div_data), hex(&r.rnd1)))
+}
+
+fn seal(line: &str) -> Result<String, String> {
+    let f = fields(line, &["fakey", "div", "rnd1", "rnd2", "mode", "payload", "out"])?;
+    let of = Sealing { fa_key: sixteen(f["fakey"])?, div_data: sixteen(f["div"])?, rnd1: sixteen(f["rnd1"])?, rnd2: sixteen(f["rnd2"])?, mode: number(f["mode"])? };
+    let fill = filled(f["out"])?;
+    let mut out = fill.clone();
+    let r = run_seal(of, &bytes(f["payload"])?, &mut out);
+    let (command, kept) = written(&out, &fill, r.length);
+    let hash = if r.number == 0 { hex(&r.keys_hash) } else { "-".to_string() };
+    Ok(format!("number={} length={} keyshash={hash} command={command}{kept}", r.number, r.length))
+}
+
+fn accept(line: &str) -> Result<String, String> {
+    let f = fields(line, &["keyshash", "div", "response", "work"])?;
+    let of = Accepting { keys_hash: sixteen(f["keyshash"])?, div_data: sixteen(f["div"])? };
+    let response = bytes(f["response"])?;
+    let before = bytes(f["work"])?;
+    let mut work = before.clone();
+    let r = run_accept(of, &response, &mut work);
+    let end = response.len().min(work.len());
+    let kept = if work[end..] == before[end..] { "" } else { " kept=no" };
+    Ok(format!("number={} record={} work={}{kept}", r.number, hex(&work[..r.length.min(work.len())]), hex(&work)))
+}
+
 fn call(line: &str, card: &mut Option<Card>) -> Result<String, String> {
     let f = fields(line, &["command", "fresh", "out"])?;
     let command = bytes(f["command"])?;
     let fresh = bytes(f["fresh"])?;
-    let size: usize = number(f["out"])?;
-    if size > 1 << 20 {
-        return Err(format!("'{size}' bytes of output are more than this program lends"));
-    }
+    let fill = filled(f["out"])?;
     let held = card.ok_or("a call with no loaded card before it")?;
-    let fill: Vec<u8> = (0..size).map(|i| (i * 167 + 91) as u8).collect();
     let mut out = fill.clone();
     let r = run_command(held, &command, &fresh, &mut out);
     let a = r.answer;
     *card = Some(r.card);
-    let end = a.length.min(size);
+    let end = a.length.min(out.len());
     let session = r.card.session;
     let after = if session.opened { format!("{}:{}", session.id, hex(&session.rnd1)) } else { "-".to_string() };
     let mut s = format!(
@@ -142,7 +198,11 @@ fn main() {
                 s
             }),
             "call" => call(question, &mut card),
-            other => Err(format!("'{other}' is neither load nor call")),
+            "list" => list(question),
+            "open" => open(question),
+            "seal" => seal(question),
+            "accept" => accept(question),
+            other => Err(format!("'{other}' is none of load, call, list, open, seal and accept")),
         };
         match result {
             Ok(s) => writeln!(out, "{question} => {s}").unwrap(),

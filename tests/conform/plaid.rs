@@ -96,10 +96,70 @@ pub struct Loaded {
     pub card: Card,
 }
 
+#[repr(C)]
+#[derive(Clone, Copy)]
+pub struct Ids {
+    pub ids: [u16; 16],
+    pub count: usize,
+}
+
+#[repr(C)]
+#[derive(Clone, Copy)]
+pub struct Written {
+    pub number: u8,
+    pub length: usize,
+}
+
+#[repr(C)]
+#[derive(Clone, Copy)]
+pub struct Opened {
+    pub number: u8,
+    pub place: usize,
+    pub id: u16,
+    pub div_data: [u8; 16],
+    pub rnd1: [u8; 16],
+}
+
+#[repr(C)]
+#[derive(Clone, Copy)]
+pub struct Sealing {
+    pub fa_key: [u8; 16],
+    pub div_data: [u8; 16],
+    pub rnd1: [u8; 16],
+    pub rnd2: [u8; 16],
+    pub mode: u16,
+}
+
+#[repr(C)]
+#[derive(Clone, Copy)]
+pub struct Sealed {
+    pub number: u8,
+    pub length: usize,
+    pub keys_hash: [u8; 16],
+}
+
+#[repr(C)]
+#[derive(Clone, Copy)]
+pub struct Accepting {
+    pub keys_hash: [u8; 16],
+    pub div_data: [u8; 16],
+}
+
+#[repr(C)]
+#[derive(Clone, Copy)]
+pub struct Accepted {
+    pub number: u8,
+    pub length: usize,
+}
+
 #[link(name = "plaid", kind = "static")]
 unsafe extern "C" {
     fn plaid_load(given: Given, area: *const u8, area_len: usize) -> Loaded;
     fn plaid_command(card: Card, command: *const u8, command_len: usize, fresh: *const u8, fresh_len: usize, out: *mut u8, out_len: usize) -> Outcome;
+    fn plaid_list(of: Ids, out: *mut u8, out_len: usize) -> Written;
+    fn plaid_open(of: Ids, blocks: *const u8, blocks_len: usize) -> Opened;
+    fn plaid_seal(of: Sealing, payload: *const u8, payload_len: usize, out: *mut u8, out_len: usize) -> Sealed;
+    fn plaid_accept(of: Accepting, response: *const u8, response_len: usize, work: *mut u8, work_len: usize) -> Accepted;
 }
 
 /// A load of any number of key sets and modes: the library looks at the counts, and at no more than the first eight and sixteen.
@@ -124,4 +184,29 @@ pub fn run_load(sets: &[KeySet], modes: &[Mode], area: &[u8], div_data: [u8; 16]
 
 pub fn run_command(card: Card, command: &[u8], fresh: &[u8], out: &mut [u8]) -> Outcome {
     unsafe { plaid_command(card, command.as_ptr(), command.len(), fresh.as_ptr(), fresh.len(), out.as_mut_ptr(), out.len()) }
+}
+
+/// Any number of KeySetIDs: the library looks at the count, and at no more than the first sixteen.
+fn ids_of(list: &[u16]) -> Ids {
+    let mut ids = [0; 16];
+    for (to, from) in ids.iter_mut().zip(list) {
+        *to = *from;
+    }
+    Ids { ids, count: list.len() }
+}
+
+pub fn run_list(list: &[u16], out: &mut [u8]) -> Written {
+    unsafe { plaid_list(ids_of(list), out.as_mut_ptr(), out.len()) }
+}
+
+pub fn run_open(list: &[u16], blocks: &[u8]) -> Opened {
+    unsafe { plaid_open(ids_of(list), blocks.as_ptr(), blocks.len()) }
+}
+
+pub fn run_seal(of: Sealing, payload: &[u8], out: &mut [u8]) -> Sealed {
+    unsafe { plaid_seal(of, payload.as_ptr(), payload.len(), out.as_mut_ptr(), out.len()) }
+}
+
+pub fn run_accept(of: Accepting, response: &[u8], work: &mut [u8]) -> Accepted {
+    unsafe { plaid_accept(of, response.as_ptr(), response.len(), work.as_mut_ptr(), work.len()) }
 }

@@ -2,12 +2,22 @@
 use load::Loaded;
 use plaid_types::Card;
 use plaid_types::KeySet;
+use plaid_types::KeySetId;
 use plaid_types::Mode;
+use plaid_types::OpModeId;
 use plaid_types::Outcome;
+use reader_accept::Accepted;
+use reader_list::Written;
+use reader_open::Opened;
+use reader_seal::Sealed;
 ghost use mathlib.Core.Path.{_≡_};
 ghost use lib.ListN.{length};
 ghost use Rattle.octets.specs.Lists.{over};
 ghost use Rattle.card.specs.Command.{outcome, answerBytes};
+ghost use Rattle.reader_list.specs.List.{listed, listOutput};
+ghost use Rattle.reader_open.specs.Open.{opened};
+ghost use Rattle.reader_seal.specs.Seal.{sealedOf, sealOutput};
+ghost use Rattle.reader_accept.specs.Accept.{acceptedOf, workAfter};
 ghost use Rattle.plaid.specs.Interface.{loadOf};
 
 // What a load is given beside the record area. What stands past a count is not looked at.
@@ -48,4 +58,69 @@ pub extern "C" fn plaid_command(card: Card, command: &[u8], fresh: &[u8], out: &
     ensures bytes { λ _. ⌜ now (out .exit) ≡ over (now (out .entry)) 0 (answerBytes card (now (command .entry)) (now (fresh .entry)) (length (now (out .entry)))) ⌝ }
 {
     card::command(card, command, fresh, out)
+}
+
+// The reader's KeySetIDs in order of preference: the first so many.
+#[repr(C)]
+pub struct Ids {
+    pub ids: [KeySetId; 16],
+    pub count: usize,
+}
+
+#[no_mangle]
+pub extern "C" fn plaid_list(of: Ids, out: &mut [u8]) -> Written
+    ensures told { λ r. ⌜ r ≡ listed (of .ids) (of .count) (length (now (out .entry))) ⌝ }
+    ensures bytes { λ _. ⌜ now (out .exit) ≡ listOutput (of .ids) (of .count) (now (out .entry)) ⌝ }
+{
+    let ids = of.ids;
+    reader_list::list(ids, of.count, out)
+}
+
+#[no_mangle]
+pub extern "C" fn plaid_open(of: Ids, blocks: &[u8]) -> Opened
+    ensures { λ r. ⌜ r ≡ opened (of .ids) (of .count) (now (blocks .entry)) ⌝ }
+{
+    let ids = of.ids;
+    reader_open::open(ids, of.count, blocks)
+}
+
+// What Seal is given beside the payload.
+#[repr(C)]
+pub struct Sealing {
+    pub fa_key: [u8; 16],
+    pub div_data: [u8; 16],
+    pub rnd1: [u8; 16],
+    pub rnd2: [u8; 16],
+    pub mode: OpModeId,
+}
+
+#[no_mangle]
+pub extern "C" fn plaid_seal(of: Sealing, payload: &[u8], out: &mut [u8]) -> Sealed
+    ensures told { λ r. ⌜ r ≡ sealedOf (of .«fa_key») (of .«div_data») (of .rnd1) (of .rnd2) (of .mode .0) (now (payload .entry)) (length (now (out .entry))) ⌝ }
+    ensures bytes { λ _. ⌜ now (out .exit) ≡ sealOutput (of .«fa_key») (of .«div_data») (of .rnd1) (of .rnd2) (of .mode .0) (now (payload .entry)) (now (out .entry)) ⌝ }
+{
+    let fa_key = of.fa_key;
+    let div_data = of.div_data;
+    let rnd1 = of.rnd1;
+    let rnd2 = of.rnd2;
+    let mode = of.mode;
+    reader_seal::seal(fa_key, div_data, rnd1, rnd2, mode, payload, out)
+}
+
+// What Accept is given beside the response.
+#[repr(C)]
+pub struct Accepting {
+    pub keys_hash: [u8; 16],
+    pub div_data: [u8; 16],
+}
+
+// The record is the first so many bytes of the work buffer as the answer's length says.
+#[no_mangle]
+pub extern "C" fn plaid_accept(of: Accepting, response: &[u8], work: &mut [u8]) -> Accepted
+    ensures told { λ r. ⌜ r ≡ acceptedOf (of .«keys_hash») (of .«div_data») (now (response .entry)) (length (now (work .entry))) ⌝ }
+    ensures bytes { λ _. ⌜ now (work .exit) ≡ workAfter (of .«keys_hash») (of .«div_data») (now (response .entry)) (now (work .entry)) ⌝ }
+{
+    let keys_hash = of.keys_hash;
+    let div_data = of.div_data;
+    reader_accept::accept_in(keys_hash, div_data, response, work)
 }

@@ -1,0 +1,53 @@
+-- What Accept writes over its work buffer, from the start: the deciphered response, and zeros. Assumes nothing.
+use mathlib.Core.Path.{_≡_, refl, ap, ap₂, _∙_}
+use mathlib.Core.List.{List, _∷_, _++_}
+use Prim.Native.Nat.{ℕ, zero, suc, _+_, _/_, _%_, _≤_}
+use native.Mathlib.Omega.{arith}
+use native.Mathlib.Nat.{le-of-suc-le-suc, not-suc-le-zero}
+use lib.ListN.{length, take, drop, replicate}
+use lib.Seq.{take-at, drop-at}
+use Rattle.octets.specs.Lists.{over}
+use Rattle.rounds.specs.InvCipher.{invCipher}
+use Rattle.aes.specs.KeyExpansion.{roundKeys}
+use Rattle.aes.specs.Aes.{invAes}
+use Rattle.cbc.specs.Cbc.{decryptedWhole}
+use Rattle.cbc.specs.Laws.{decrypted-all}
+use Rattle.reader_accept.specs.Accept.{zeros, decipheredText}
+use Rattle.reader_accept.specs.Laws.{length-text}
+
+-- what is written, and what stands behind it
+pub front : (d s : List ℕ) (n : ℕ) → length s ≡ n → take n (over d 0 s) ≡ s
+unfolding over
+front d s n l = take-at s (drop (0 + length s) d) n l
+
+pub behind : (d s : List ℕ) (n : ℕ) → length s ≡ n → drop n (over d 0 s) ≡ drop n d
+unfolding over
+behind d s n l = let z : 0 + length s ≡ n = omega arith in drop-at s (drop (0 + length s) d) n l ∙ ap (λ (k : ℕ). drop k d) z
+
+-- as many bytes again leave nothing of those before
+pub over-again : (d s t : List ℕ) → length s ≡ length t → over (over d 0 s) 0 t ≡ over d 0 t
+unfolding over
+over-again d s t l = ap (λ (x : List ℕ). t ++ x) (behind d s (0 + length t) (omega arith))
+
+pub zeros-of : (m n : ℕ) → n ≤ m → _≡_ {A = List ℕ} (take n (replicate m 0)) (replicate n 0)
+zeros-of m zero h = refl
+zeros-of zero (suc n) h = absurd (not-suc-le-zero h)
+zeros-of (suc m) (suc n) h = ap (λ (x : List ℕ). 0 ∷ x) (zeros-of m n (le-of-suc-le-suc h))
+
+-- the response is copied, and deciphered where it stands
+pub deciphered-writes :
+    (hash response work : List ℕ) {w : List (List ℕ)} {e x : List ℕ}
+    → length response % 16 ≡ 0
+    → w ≡ roundKeys 4 hash
+    → e ≡ over work 0 response
+    → x ≡ decryptedWhole (invCipher 10 w) zeros (take (length response) e)
+    → x ++ drop (length response) e ≡ over work 0 (decipheredText hash response)
+unfolding over decipheredText
+deciphered-writes hash response work {w} {e} {x} m qw q r =
+    let n : ℕ = length response in
+    let t : x ≡ decipheredText hash response =
+    r
+    ∙ ap₂ (λ (k : List (List ℕ)) (s : List ℕ). decryptedWhole (invCipher 10 k) zeros s) qw (ap (take n) q ∙ front work response n refl)
+    ∙ decrypted-all (invAes 4 hash) (n / 16) zeros response (omega arith) in
+    let z : n ≡ 0 + length (decipheredText hash response) = omega (arith, length-text hash response m) in
+    ap₂ (λ (a b : List ℕ). a ++ b) t (ap (drop n) q ∙ behind work response n refl ∙ ap (λ (k : ℕ). drop k work) z)

@@ -1,0 +1,66 @@
+-- Document 01, "The reader": Accept.
+use mathlib.Core.Bool.{Bool, cond, _&&_, _||_}
+use mathlib.Core.List.{List}
+use Prim.Native.Nat.{ℕ, _+_, _-_, _/_}
+use lib.Dec.{eqb, ltb, leb}
+use lib.ListN.{length, replicate}
+use Rattle.octets.specs.Bytes.{same}
+use Rattle.octets.specs.Lists.{part, over}
+use Rattle.aes.specs.Aes.{invAes}
+use Rattle.padding.specs.Method2.{end, rightly}
+use Rattle.cbc.specs.Cbc.{decrypted}
+use Rattle.reader_accept.specs.declared.Accepted.{Accepted}
+
+-- sixteen zero bytes
+abbrev pub zeros : List ℕ
+zeros = replicate 16 0
+
+-- "Decipher under KeysHash into a work buffer": the blocks of the response, by CBC from sixteen zero bytes on
+unfoldable pub decipheredText : List ℕ → List ℕ → List ℕ
+decipheredText hash response = decrypted (invAes 4 hash) zeros (length response / 16) response
+
+-- "unpad": how many bytes of s stand before its padding
+abbrev pub textLength : List ℕ → ℕ
+textLength s = end s - 1
+
+-- "the last 16 bytes must be DivData and 1 to 64 bytes must stand before them", of the text in the first t bytes of s
+unfoldable pub rightBody : List ℕ → ℕ → List ℕ → Bool
+rightBody s t div = leb (1 + 16) t && (leb t (64 + 16) && same (part s (t - 16) 16) div)
+
+unfoldable pub authenticated : List ℕ → List ℕ → Bool
+authenticated s div = rightly s && rightBody s (textLength s) div
+
+-- the bytes before them: how many they are
+abbrev pub recordLength : List ℕ → ℕ
+recordLength s = textLength s - 16
+
+-- "length not 32, 48, 64, 80 or 96"
+unfoldable pub knownLength : ℕ → Bool
+knownLength n = eqb n 32 || (eqb n 48 || (eqb n 64 || (eqb n 80 || eqb n 96)))
+
+-- "Accept: 18 length not ..; 19 work buffer shorter than the response; 20 not authenticated (padding, body or DivData, one number)",
+-- for a response of n bytes and a work buffer of so many; 0: not declined
+unfoldable pub acceptNumber : ℕ → ℕ → Bool → ℕ
+acceptNumber n room ok = cond (knownLength n) (cond (ltb room n) 19 (cond ok 0 20)) 18
+
+-- what is handed back: the number, and how many bytes of the work buffer are the record. "On any of the three the returned part is empty."
+abbrev pub acceptAnswer : ℕ → ℕ → Accepted
+acceptAnswer number n = record { number = number; length = cond (eqb number 0) n 0 }
+
+unfoldable pub acceptedOf : List ℕ → List ℕ → List ℕ → ℕ → Accepted
+acceptedOf hash div response room =
+    acceptAnswer (acceptNumber (length response) room (authenticated (decipheredText hash response) div)) (recordLength (decipheredText hash response))
+
+-- the work buffer afterwards. Declined by 18 or 19: "a decline writes nothing". By 20: "the deciphered bytes zeroed". Otherwise it has the
+-- deciphered bytes. "Bytes beyond the response's length are untouched."
+abbrev pub workOf : ℕ → List ℕ → ℕ → List ℕ → List ℕ
+workOf number text n work =
+    cond (eqb number 0) (over work 0 text) (cond (eqb number 20) (over work 0 (replicate n 0)) work)
+
+unfoldable pub workAfter : List ℕ → List ℕ → List ℕ → List ℕ → List ℕ
+workAfter hash div response work =
+    workOf (acceptNumber (length response) (length work) (authenticated (decipheredText hash response) div)) (decipheredText hash response) (length response) work
+
+-- "these are returned as a part of the work buffer"
+abbrev pub recordPart : List ℕ → Accepted → List ℕ
+recordPart work a = part work 0 (a .length)

@@ -1,0 +1,55 @@
+-- Writes one behind the other, as one: those of the entries, and those of the command. Assumes nothing.
+use mathlib.Core.Path.{_≡_, refl, sym, ap, ap₂, _∙_}
+use mathlib.Core.List.{List, [], _∷_, _++_, append-assoc}
+use Prim.Native.Nat.{ℕ, _+_, _*_, _/_, _%_, _<_, _≤_}
+use native.Mathlib.Numerals.{add-one}
+use native.Mathlib.Omega.{arith}
+use lib.ListN.{length, getD, take, drop, length-append}
+use lib.Seq.{length-take-le, take-at, take-suc, drop-append-add, drop-drop}
+use Rattle.octets.specs.Lists.{over}
+use Rattle.list.specs.Encoding.{shortEntries, encoded}
+use Rattle.list.specs.Meaning.{length-short, length-encoded}
+use Rattle.reader_list.specs.List.{listCommand}
+
+-- s is written over d, and t behind it
+over-next : (d s t : List ℕ) (at : ℕ) {bt : ℕ} {e e′ : List ℕ} → at + length s ≡ bt → at ≤ length d → e ≡ over d at s → e′ ≡ over e bt t → e′ ≡ over d at (s ++ t)
+unfolding over
+over-next d s t at {bt} l k q r =
+    let p : List ℕ = take at d ++ s in
+    let rest : List ℕ = drop (at + length s) d in
+    let m : length p ≡ bt = length-append (take at d) s ∙ ap (λ (n : ℕ). n + length s) (length-take-le at d k) ∙ l in
+    let n : at + length s + length t ≡ at + length (s ++ t) = omega (arith, length-append s t) in
+    r ∙ ap (λ (x : List ℕ). over x bt t) q
+    ∙ ap₂ (λ (x y : List ℕ). x ++ t ++ y)
+    (take-at p rest bt m)
+    (ap (λ (k : ℕ). drop (k + length t) (p ++ rest)) (sym m) ∙ drop-append-add p rest (length t) ∙ drop-drop (length t) (at + length s) d ∙ ap (λ (k : ℕ). drop k d) n)
+    ∙ ap (λ (x : List ℕ). x ++ drop (at + length (s ++ t)) d) (append-assoc (take at d) s t)
+
+-- the bytes of one entry
+abbrev entry : ℕ → List ℕ
+entry k = 4 ∷ 2 ∷ k / 256 ∷ k % 256 ∷ []
+
+short-snoc : (ids : List ℕ) (k : ℕ) → shortEntries (ids ++ (k ∷ [])) ≡ shortEntries ids ++ entry k
+unfolding shortEntries
+short-snoc [] k = refl
+short-snoc (x ∷ ids) k = ap (λ (s : List ℕ). 4 ∷ 2 ∷ x / 256 ∷ x % 256 ∷ s) (short-snoc ids k)
+
+pub entries-turn : (d ids : List ℕ) (i : ℕ) {e e′ : List ℕ} → i < length ids → 7 ≤ length d → e ≡ over d 7 (shortEntries (take i ids)) →
+    e′ ≡ over e (7 + 4 * i) (entry (getD ids i 0)) → e′ ≡ over d 7 (shortEntries (take (i + 1) ids))
+entries-turn d ids i h k q r =
+    let s : List ℕ = shortEntries (take i ids) in
+    let l : length s ≡ 4 * i = length-short (take i ids) ∙ ap (λ (n : ℕ). 4 * n) (length-take-le i ids (omega arith)) in
+    over-next d s (entry (getD ids i 0)) 7 (omega arith) k q r
+    ∙ ap (over d 7) (sym (ap shortEntries (ap (λ (n : ℕ). take n ids) (add-one i) ∙ take-suc ids i 0 h) ∙ short-snoc (take i ids) (getD ids i 0)))
+
+-- what stands before the entries
+abbrev head : ℕ → List ℕ
+head n = 0 ∷ 0x87 ∷ 0 ∷ 0 ∷ (n + 2) ∷ 0x30 ∷ n ∷ []
+
+pub command-writes : (d ids : List ℕ) {e₁ e₂ e₃ : List ℕ} → e₁ ≡ over d 0 (head (4 * length ids)) → e₂ ≡ over e₁ 7 (shortEntries ids) →
+    e₃ ≡ over e₂ (4 * length ids + 7) (0 ∷ []) → e₃ ≡ over d 0 (listCommand ids)
+unfolding listCommand encoded
+command-writes d ids q₁ q₂ q₃ =
+    let h : List ℕ = head (4 * length ids) in
+    over-next d (h ++ shortEntries ids) (0 ∷ []) 0 (omega (arith, length-short ids)) (omega arith) (over-next d h (shortEntries ids) 0 refl (omega arith) q₁ q₂) q₃
+    ∙ ap (λ (n : ℕ). over d 0 (0 ∷ 0x87 ∷ 0 ∷ 0 ∷ n ∷ (encoded ids ++ (0 ∷ [])))) (sym (length-encoded ids))

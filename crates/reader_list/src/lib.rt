@@ -1,0 +1,128 @@
+//! The reader's List: the initial command for its key sets.
+use plaid_types::KeySetId;
+ghost use mathlib.Core.Path.{_≡_};
+ghost use mathlib.Core.Bool.{_||_};
+ghost use Prim.Native.Nat.{_+_, _*_, _<_, _≤_};
+ghost use lib.Dec.{eqb};
+ghost use lib.ListN.{length, getD, drop};
+ghost use Rattle.octets.specs.Lists.{over};
+ghost use Rattle.list.specs.Encoding.{shortEntries};
+ghost use Rattle.load.specs.Load.{some, repeated};
+ghost use Rattle.reader_list.specs.List.{numbers, listCommand, listed, listOutput};
+
+// What List hands back: the number, and the command's length.
+#[repr(C)]
+pub struct Written {
+    pub number: u8,
+    pub length: usize,
+}
+
+// The number alone.
+fn declined(number: u8) -> Written
+    ensures { λ r. ⌜ r ≡ record { number = number; length = 0 } ⌝ }
+{
+    Written {
+        number: number,
+        length: 0,
+    }
+}
+
+fn numbers(ids: [KeySetId; 16]) -> [u16; 16]
+    ensures { λ r. ⌜ r ≡ numbers ids ⌝ }
+{
+    let mut n = [0u16; 16];
+    let mut i: usize = 0;
+    while i < 16 {
+        let k = ids[i];
+        n[i] = k.0;
+        i += 1;
+    }
+    n
+}
+
+fn either(a: bool, b: bool) -> bool
+    ensures { λ r. ⌜ r ≡ (a || b) ⌝ }
+{
+    if a { true } else { b }
+}
+
+// Whether the i-th number stands again behind itself.
+fn again(ids: &[u16], i: usize) -> bool
+    requires { ⌜ i < length (now ids) ⌝ }
+    ensures { λ r. ⌜ r ≡ some (eqb (getD (now (ids .entry)) i 0)) (drop (i + 1) (now (ids .entry))) ⌝ }
+{
+    let x = ids[i];
+    let mut r = false;
+    let mut j = i + 1;
+    while j < ids.len() {
+        r = either(r, x == ids[j]);
+        j += 1;
+    }
+    r
+}
+
+fn repeats(ids: &[u16]) -> bool
+    ensures { λ r. ⌜ r ≡ repeated (now (ids .entry)) ⌝ }
+{
+    let mut r = false;
+    let mut i: usize = 0;
+    while i < ids.len() {
+        r = either(r, again(ids, i));
+        i += 1;
+    }
+    r
+}
+
+// The entries, each 04 02 and the KeySetID, from place 7 on.
+fn entries(ids: &[u16], out: &mut [u8])
+    requires { ⌜ 7 + 4 * length (now ids) ≤ length (now out) ⌝ }
+    ensures { λ _. ⌜ now (out .exit) ≡ over (now (out .entry)) 7 (shortEntries (now (ids .entry))) ⌝ }
+{
+    let mut i: usize = 0;
+    while i < ids.len() {
+        let id = ids[i];
+        let e = [4u8, 2, (id / 256) as u8, (id % 256) as u8];
+        octets::copy_at(out, 7 + 4 * i, &e);
+        i += 1;
+    }
+}
+
+// The command of these KeySetIDs, and its length.
+fn command(ids: &[u16], out: &mut [u8]) -> usize
+    requires { ⌜ (length (now ids) ≤ 16) × (4 * length (now ids) + 8 ≤ length (now out)) ⌝ }
+    ensures { λ r. ⌜ r ≡ length (listCommand (now (ids .entry))) ⌝ }
+    ensures { λ _. ⌜ now (out .exit) ≡ over (now (out .entry)) 0 (listCommand (now (ids .entry))) ⌝ }
+{
+    let n = 4 * ids.len();
+    let head = [0u8, 0x87, 0, 0, (n + 2) as u8, 0x30, n as u8];
+    octets::copy_at(out, 0, &head);
+    entries(ids, out);
+    let last = [0u8];
+    octets::copy_at(out, n + 7, &last);
+    n + 8
+}
+
+pub fn list(ids: [KeySetId; 16], count: usize, out: &mut [u8]) -> Written
+    ensures { λ r. ⌜ r ≡ listed ids count (length (now (out .entry))) ⌝ }
+    ensures { λ _. ⌜ now (out .exit) ≡ listOutput ids count (now (out .entry)) ⌝ }
+{
+    if count == 0 {
+        return declined(11);
+    }
+    if 16 < count {
+        return declined(11);
+    }
+    let all = numbers(ids);
+    let given = &all[..count];
+    if repeats(given) {
+        return declined(12);
+    }
+    if out.len() < 4 * count + 8 {
+        return declined(13);
+    }
+    let length = command(given, out);
+    Written {
+        number: 0,
+        length: length,
+    }
+}

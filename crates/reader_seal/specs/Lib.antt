@@ -1,0 +1,3 @@
+pub mod Seal
+pub mod Laws
+pub mod RoundTrip

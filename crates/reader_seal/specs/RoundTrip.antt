@@ -1,0 +1,120 @@
+-- Who has the diversified key deciphers the data of Seal's command to the padded STR2, and unpads it to STR2. Assumes nothing.
+use mathlib.Core.Path.{_≡_, ap, _∙_}
+use mathlib.Core.List.{List, [], _∷_, _++_}
+use Prim.Native.Nat.{ℕ, zero, suc, _+_, _*_, _/_, _%_, _^_, _<_}
+use native.Mathlib.Nat.{mod-lt}
+use native.Mathlib.Omega.{arith}
+use lib.ListN.{length, getD, take, replicate}
+use lib.Seq.{take-at}
+use Rattle.octets.specs.Bytes.{Bytes, Block}
+use Rattle.octets.specs.Lists.{part}
+use Rattle.aes.specs.Aes.{invAes}
+use Rattle.aes.specs.RoundTrip.{aes-block}
+use Rattle.sha256.specs.Words.{wordBytes}
+use Rattle.sha256.specs.Hash.{sha256, digestBytes, stateAfter}
+use Rattle.sha256.specs.Parsing.{blocks}
+use Rattle.padding.specs.Method2.{blocksFor, zeroBytes, padded, unpadded}
+use Rattle.padding.specs.Laws.{length-padded, unpadded-padded}
+use Rattle.padding.specs.declared.Unpadded.the-variants.{Text}
+use Rattle.cbc.specs.Cbc.{decrypted}
+use Rattle.cbc.specs.Aes.{decrypted-encrypted-aes}
+use Rattle.reader_seal.specs.Seal.{zeros, keysHashOf, diversifiedBy, str2, sealedBlocks, lcOf, sealedData, finalCommand, sealCommand}
+use Rattle.reader_seal.specs.Laws.{length-keysHash, length-str2, length-sealedData}
+
+-- lists of bytes
+cons-bytes : (x : ℕ) (s : List ℕ) → x < 256 → Bytes s → Bytes (x ∷ s)
+cons-bytes x s h hs zero = h
+cons-bytes x s h hs (suc i) = hs i
+
+append-bytes : (a b : List ℕ) → Bytes a → Bytes b → Bytes (a ++ b)
+append-bytes [] b ha hb i = hb i
+append-bytes (x ∷ a) b ha hb zero = ha 0
+append-bytes (x ∷ a) b ha hb (suc i) = append-bytes a b (λ j. ha (suc j)) hb i
+
+zeros-bytes : (n : ℕ) → Bytes (replicate n 0)
+zeros-bytes zero i = omega arith
+zeros-bytes (suc n) zero = omega arith
+zeros-bytes (suc n) (suc i) = zeros-bytes n i
+
+take-bytes : (n : ℕ) (s : List ℕ) → Bytes s → Bytes (take n s)
+take-bytes zero s b i = omega arith
+take-bytes (suc n) [] b i = omega arith
+take-bytes (suc n) (x ∷ s) b zero = b 0
+take-bytes (suc n) (x ∷ s) b (suc i) = take-bytes n s (λ j. b (suc j)) i
+
+padded-bytes : (s : List ℕ) → Bytes s → Bytes (padded s)
+unfolding padded
+padded-bytes s hs =
+    let z : List ℕ = replicate (zeroBytes (length s)) 0 in
+    append-bytes s (0x80 ∷ z) hs (cons-bytes 0x80 z (omega arith) (zeros-bytes (zeroBytes (length s))))
+
+word-bytes : (x : ℕ) → Bytes (wordBytes x)
+word-bytes x zero = mod-lt (x / 2 ^ 24) (omega arith)
+word-bytes x (suc zero) = mod-lt (x / 2 ^ 16) (omega arith)
+word-bytes x (suc (suc zero)) = mod-lt (x / 2 ^ 8) (omega arith)
+word-bytes x (suc (suc (suc zero))) = mod-lt x (omega arith)
+word-bytes x (suc (suc (suc (suc i)))) = omega arith
+
+-- the first n words of a hash value as bytes: with eight, the digest
+words : List ℕ → ℕ → List ℕ
+words h zero = []
+words h (suc n) = words h n ++ wordBytes (getD h n 0)
+
+words-bytes : (h : List ℕ) (n : ℕ) → Bytes (words h n)
+unfolding words
+words-bytes h zero i = omega arith
+words-bytes h (suc n) i = append-bytes (words h n) (wordBytes (getD h n 0)) (words-bytes h n) (word-bytes (getD h n 0)) i
+
+sha256-bytes : (m : List ℕ) → Bytes (sha256 m)
+unfolding words sha256 digestBytes
+sha256-bytes m = words-bytes (stateAfter m (blocks m)) 8
+
+pub keysHash-bytes : (rnd1 rnd2 : List ℕ) → Bytes (keysHashOf rnd1 rnd2)
+unfolding keysHashOf part
+keysHash-bytes rnd1 rnd2 = take-bytes 16 (sha256 (rnd1 ++ rnd2)) (sha256-bytes (rnd1 ++ rnd2))
+
+pub str2-bytes : (mode : ℕ) (rnd2 payload hash : List ℕ) → mode < 65536 → Bytes rnd2 → Bytes payload → Bytes hash → Bytes (str2 mode rnd2 payload hash)
+unfolding str2
+str2-bytes mode rnd2 payload hash hm hr hp hh =
+    cons-bytes (mode / 256) (mode % 256 ∷ (rnd2 ++ (payload ++ hash))) (omega arith)
+    (cons-bytes (mode % 256) (rnd2 ++ (payload ++ hash)) (omega arith) (append-bytes rnd2 (payload ++ hash) hr (append-bytes payload hash hp hh)))
+
+-- what is deciphered under the diversified key: Lc bytes of the command, behind its first five
+abbrev pub decipheredData : List ℕ → List ℕ → List ℕ → List ℕ → ℕ → List ℕ → List ℕ
+decipheredData fa div rnd1 rnd2 mode payload =
+    decrypted (invAes 4 (diversifiedBy fa div)) zeros (sealedBlocks (length payload)) (part (sealCommand fa div rnd1 rnd2 mode payload) 5 (lcOf (length payload)))
+
+module _ (fa div rnd1 rnd2 : List ℕ) (mode : ℕ) (payload : List ℕ) (hf : Bytes fa) (hd : Block div) (hr : Block rnd2) (hm : mode < 65536) (hp : Bytes payload) where
+  text : List ℕ
+  text = str2 mode rnd2 payload (keysHashOf rnd1 rnd2)
+
+  length-text : length text ≡ 34 + length payload
+  unfolding text
+  length-text = length-str2 mode rnd2 payload (keysHashOf rnd1 rnd2) (hr .long) (length-keysHash rnd1 rnd2)
+
+  text-bytes : Bytes text
+  unfolding text
+  text-bytes = str2-bytes mode rnd2 payload (keysHashOf rnd1 rnd2) hm (hr .byte) hp (keysHash-bytes rnd1 rnd2)
+
+  key-bytes : Bytes (diversifiedBy fa div)
+  unfolding diversifiedBy
+  key-bytes = aes-block 4 fa hf div hd .byte
+
+  pub deciphered-str2 : decipheredData fa div rnd1 rnd2 mode payload ≡ padded (str2 mode rnd2 payload (keysHashOf rnd1 rnd2))
+  unfolding sealCommand finalCommand sealedData part text
+  deciphered-str2 =
+      let key : List ℕ = diversifiedBy fa div in
+      let n : ℕ = sealedBlocks (length payload) in
+      let d : List ℕ = sealedData key mode rnd2 payload (keysHashOf rnd1 rnd2) in
+      ap (decrypted (invAes 4 key) zeros n) (take-at d (0 ∷ []) (lcOf (length payload)) (length-sealedData key mode rnd2 payload (keysHashOf rnd1 rnd2)))
+      ∙ decrypted-encrypted-aes 4 key key-bytes zeros (padded text) (zeros-bytes 16) (padded-bytes text text-bytes) n
+      (length-padded text ∙ ap (λ (k : ℕ). 16 * blocksFor k) length-text)
+
+  -- unpadded, it is a text of 34 bytes and the payload's, and that text is STR2
+  pub unpadded-str2 : unpadded (decipheredData fa div rnd1 rnd2 mode payload) ≡ Text (34 + length payload)
+  unfolding text
+  unpadded-str2 = ap unpadded deciphered-str2 ∙ unpadded-padded text ∙ ap Text length-text
+
+  pub read-str2 : take (34 + length payload) (decipheredData fa div rnd1 rnd2 mode payload) ≡ str2 mode rnd2 payload (keysHashOf rnd1 rnd2)
+  unfolding text padded
+  read-str2 = ap (take (34 + length payload)) deciphered-str2 ∙ take-at text (0x80 ∷ replicate (zeroBytes (length text)) 0) (34 + length payload) length-text

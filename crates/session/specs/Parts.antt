@@ -1,0 +1,146 @@
+-- What the session promise is put together from: a call that is not declined, the block that opens, and the FAKey of a held set. Assumes nothing.
+use mathlib.Core.Path.{_≡_, refl, sym, ap, ap₂, _∙_}
+use mathlib.Core.Bool.{Bool, true, false, cond, _&&_, true≢false}
+use mathlib.Core.List.{List, [], _∷_, _++_, append-assoc}
+use Prim.Native.Nat.{ℕ, zero, suc, _+_, _*_, _/_, _%_, _<_, _≤_}
+use native.Mathlib.Nat.{not-suc-le-zero, le-of-suc-le-suc}
+use native.Mathlib.Omega.{arith}
+use lib.Dec.{eqb, ltb}
+use lib.ListN.{length, getD, length-append}
+use borrow.Author.Tests.{eqb-true, eq-eqb, ne-eqb, ltb-true, ltb-false, lt-ltb, le-ltb}
+use Rattle.octets.specs.Lists.{part}
+use Rattle.octets.specs.Bytes.{same}
+use Rattle.octets.specs.Same.{same-of}
+use Rattle.steps.specs.Made.{matched}
+use Rattle.frame.specs.Frame.{frameOf, insOf, statusOf, dataOf}
+use Rattle.frame.specs.Declines.{padBytes, noZero, verdict}
+use Rattle.frame.specs.declared.Verdict.{Verdict}
+use Rattle.plaid_types.specs.Cards.{noSet, withSession, Reply}
+use Rattle.plaid_types.specs.declared.KeySetSlot.{KeySetSlot}
+use Rattle.plaid_types.specs.declared.KeySetId.{KeySetId}
+use Rattle.plaid_types.specs.declared.Card.{Card}
+use Rattle.plaid_types.specs.declared.Outcome.{Outcome}
+use Rattle.load.specs.Laws.{Stocked, setAt}
+use Rattle.initial.specs.Initial.{str1, blockOf}
+use Rattle.final_command.specs.Final.{keyOf}
+use Rattle.card.specs.Command.{replyTo, told, declined, verdictOn, outcome, answerBytes}
+use Rattle.reader_open.specs.Open.{formed, textOf, idOf, divOf, rnd1Of, rnd1Copy, agrees, opensAs, blockAt, winner}
+use Rattle.reader_open.specs.Laws.{opensEntry, Wins, Winner, won, lost, Encrypted, form-formed, form-text}
+use Rattle.session_initial.specs.Parts.{part-after, part-last}
+use Rattle.session_initial.specs.Held.{Holds}
+
+-- a call whose frame is right and that gets no number is not declined
+passes-by : (s : ℕ) (a b d : Bool) → s ≡ 0x9000 →
+    cond {A = Verdict} a (cond b (cond d (record { number = 10; status = 0 }) (record { number = 0; status = s })) (record { number = 9; status = 0 })) (record { number = 8; status = 0 }) .number ≡ 0 →
+    cond {A = Verdict} a (cond b (cond d (record { number = 10; status = 0 }) (record { number = 0; status = s })) (record { number = 9; status = 0 })) (record { number = 8; status = 0 }) .status ≡ 0x9000
+passes-by s true true true e z = absurd (omega arith)
+passes-by s true true false e z = e
+passes-by s true false d e z = absurd (omega arith)
+passes-by s false b d e z = absurd (omega arith)
+
+verdict-passes : (n : ℕ) (f fresh : List ℕ) (room : ℕ) → statusOf n f ≡ 0x9000 → verdict n f fresh room .number ≡ 0 → verdict n f fresh room .status ≡ 0x9000
+unfolding verdict
+verdict-passes n f fresh room e z = passes-by (statusOf n f) (eqb (length fresh) 253) (noZero (padBytes fresh)) (ltb room 256) e z
+
+module _ (c : Card) (cmd fresh : List ℕ) (room : ℕ) (right : statusOf (length cmd) (frameOf cmd) ≡ 0x9000) where
+  ok-by : (t : Bool) → eqb (verdictOn cmd fresh room .status) 0x9000 ≡ t →
+      cond {A = Outcome} t (record { answer = told (replyTo c cmd fresh); card = withSession c (replyTo c cmd fresh .session) }) (record { answer = declined (verdictOn cmd fresh room); card = c }) .answer .number ≡ 0 →
+      eqb (verdictOn cmd fresh room .status) 0x9000 ≡ true
+  ok-by true e z = e
+  ok-by false e z = eq-eqb (verdictOn cmd fresh room .status) 0x9000 (verdict-passes (length cmd) (frameOf cmd) fresh room right z)
+
+  pub goes-on : outcome c cmd fresh room .answer .number ≡ 0 → eqb (verdictOn cmd fresh room .status) 0x9000 ≡ true
+  unfolding outcome
+  goes-on z = ok-by (eqb (verdictOn cmd fresh room .status) 0x9000) refl z
+
+  -- its answer bytes and its next card are those of the reply
+  pub call-bytes : outcome c cmd fresh room .answer .number ≡ 0 → answerBytes c cmd fresh room ≡ replyTo c cmd fresh .bytes
+  unfolding answerBytes
+  call-bytes z = ap (λ (t : Bool). cond t (replyTo c cmd fresh .bytes) []) (goes-on z)
+
+  pub call-card : outcome c cmd fresh room .answer .number ≡ 0 → outcome c cmd fresh room .card ≡ withSession c (replyTo c cmd fresh .session)
+  unfolding outcome
+  call-card z =
+      ap (λ (t : Bool). cond {A = Outcome} t (record { answer = told (replyTo c cmd fresh); card = withSession c (replyTo c cmd fresh .session) }) (record { answer = declined (verdictOn cmd fresh room); card = c }) .card)
+      (goes-on z)
+
+-- the card's block opens for its KeySetID
+module _ (fresh : List ℕ) (k : ℕ) (div rnd1 : List ℕ) (lf : length (padBytes fresh) ≡ 203) (nz : noZero (padBytes fresh) ≡ true) (ld : length div ≡ 16) (lr : length rnd1 ≡ 16) where
+  t : List ℕ
+  t = str1 k div rnd1
+
+  long : length t ≡ 50
+  unfolding t str1
+  long = omega (arith, length-append div (rnd1 ++ rnd1), length-append rnd1 rnd1)
+
+  form : Encrypted (blockOf fresh t) (padBytes fresh) t
+  unfolding blockOf
+  form = record { is = ap (λ (l : List ℕ). 0 ∷ 2 ∷ l) (append-assoc (padBytes fresh) (0 ∷ []) t); nonzero = nz; ps-long = lf; m-long = long }
+
+  pub block-text : textOf (blockOf fresh (str1 k div rnd1)) ≡ str1 k div rnd1
+  unfolding t
+  block-text = form-text form
+
+  pub text-div : divOf (str1 k div rnd1) ≡ div
+  unfolding str1
+  text-div = part-after (k / 256 ∷ k % 256 ∷ []) div (rnd1 ++ rnd1) 2 16 refl ld
+
+  pub text-rnd1 : rnd1Of (str1 k div rnd1) ≡ rnd1
+  unfolding str1
+  text-rnd1 = ap (λ (l : List ℕ). part l 18 16) (ap (λ (l : List ℕ). k / 256 ∷ k % 256 ∷ l) refl) ∙ part-after (k / 256 ∷ k % 256 ∷ div) rnd1 rnd1 18 16 (omega arith) lr
+
+  text-copy : rnd1Copy (str1 k div rnd1) ≡ rnd1
+  unfolding str1
+  text-copy =
+      ap (λ (l : List ℕ). part (k / 256 ∷ k % 256 ∷ l) 34 16) (sym (append-assoc div rnd1 rnd1))
+      ∙ part-last (k / 256 ∷ k % 256 ∷ (div ++ rnd1)) rnd1 34 16 (omega (arith, length-append div rnd1)) lr
+
+  text-id : idOf (str1 k div rnd1) ≡ k
+  unfolding str1
+  text-id = omega arith
+
+  text-agrees : agrees k (str1 k div rnd1) ≡ true
+  unfolding agrees
+  text-agrees = rw (eq-eqb (idOf (str1 k div rnd1)) k text-id) (same-of (rnd1Of (str1 k div rnd1)) (rnd1Copy (str1 k div rnd1)) (text-rnd1 ∙ sym text-copy))
+
+  pub block-opens : opensAs k (blockOf fresh (str1 k div rnd1)) ≡ true
+  unfolding opensAs t
+  block-opens = rw (form-formed form, block-text) text-agrees
+
+-- the entry that opens with none before it is the winner
+module _ (ids : List KeySetId) (n : ℕ) (blocks : List ℕ) (j : ℕ) (h : j < n) (o : opensEntry ids blocks j ≡ true) (e : (m : ℕ) → m < j → opensEntry ids blocks m ≡ false) where
+  order-by : (i : ℕ) (a b : Bool) → ltb i j ≡ a → ltb j i ≡ b → opensEntry ids blocks i ≡ true → ((m : ℕ) → m < i → opensEntry ids blocks m ≡ false) → i ≡ j
+  order-by i true b p q oi ei = absurd (true≢false (sym oi ∙ e i (ltb-true i j p)))
+  order-by i false true p q oi ei = absurd (true≢false (sym o ∙ ei j (ltb-true j i q)))
+  order-by i false false p q oi ei = omega (arith, ltb-false i j p, ltb-false j i q)
+
+  pub winner-is : Winner ids n blocks → winner ids n blocks ≡ j
+  winner-is (won w) = order-by (winner ids n blocks) (ltb (winner ids n blocks) j) (ltb j (winner ids n blocks)) refl refl (w .opens) (w .earlier)
+  winner-is (lost f q) = absurd (true≢false (sym o ∙ f j h))
+
+-- the FAKey found by KeySetID is that of the slot that holds it
+key-at : (ss : List KeySetSlot) (k : ℕ) (other : List ℕ) (n : ℕ) → n < length ss → matched true k (getD ss n noSet .held) (getD ss n noSet .id .0) ≡ true →
+    ((m : ℕ) → m < n → matched true k (getD ss m noSet .held) (getD ss m noSet .id .0) ≡ false) → keyOf ss k other ≡ getD ss n noSet .«fa_key»
+unfolding keyOf
+key-at [] k other n h e f = absurd (not-suc-le-zero h)
+key-at (s ∷ ss) k other zero h e f = rw e
+key-at (s ∷ ss) k other (suc n) h e f = rw (f 0 (omega arith)) (key-at ss k other n (le-of-suc-le-suc h) e (λ m l. f (suc m) (omega arith)))
+
+split-and : (a b : Bool) → (a && b) ≡ true → (a ≡ true) × (b ≡ true)
+split-and true b e = (refl, e)
+split-and false b e = absurd (true≢false (sym e))
+
+module _ (c : Card) (g : Stocked c) (k n : ℕ) (w : Holds (c .sets) n k) where
+  others-by : (m : ℕ) → m < n → (t : Bool) → matched true k (setAt c m .held) (setAt c m .id .0) ≡ t → t ≡ false
+  others-by m h false e = refl
+  others-by m h true e =
+      let s = split-and (setAt c m .held) (eqb k (setAt c m .id .0)) e in
+      absurd (g .set-once m n h (s .0) (w .kept) (sym (eqb-true k (setAt c m .id .0) (s .1)) ∙ sym (w .id)))
+
+  at-slot : matched true k (setAt c n .held) (setAt c n .id .0) ≡ true
+  at-slot = rw (w .kept, eq-eqb k (setAt c n .id .0) (sym (w .id)))
+
+  pub key-held : (other : List ℕ) → keyOf (c .sets) k other ≡ getD (c .sets) n noSet .«fa_key»
+  key-held other =
+      key-at (c .sets) k other n (omega (arith, w .below, g .sets-long)) at-slot
+      (λ m h. others-by m h (matched true k (setAt c m .held) (setAt c m .id .0)) refl)

@@ -1,0 +1,326 @@
+-- The session promise of demand 2, from a loaded card to the record that Accept returns. Assumes nothing.
+use mathlib.Core.Path.{_≡_, refl, sym, ap, ap₂, _∙_, subst}
+use mathlib.Core.Bool.{Bool, true, false, cond, _||_, true≢false}
+use mathlib.Core.List.{List, [], _∷_, map}
+use Prim.Native.Nat.{ℕ, zero, suc, _+_, _*_, _<_, _≤_}
+use native.Mathlib.Omega.{arith}
+use lib.Dec.{eqb, ltb}
+use lib.ListN.{length, getD, take, drop, length-map, length-drop, List·getD-map}
+use lib.Seq.{getD-drop, getD-take, length-take-le}
+use borrow.Author.Tests.{eqb-true, ltb-false, eq-eqb, ne-eqb, le-ltb}
+use Rattle.octets.specs.Lists.{part, length-part}
+use Rattle.octets.specs.Bytes.{Bytes, Block}
+use Rattle.padding.specs.Method2.{blocksFor}
+use Rattle.frame.specs.Frame.{frameOf, insOf, statusOf, dataOf, initialIns, finalIns}
+use Rattle.frame.specs.Declines.{padBytes, noZero, verdict}
+use Rattle.frame.specs.Laws.{Passed, passed}
+use Rattle.list.specs.Encoding.{encoded}
+use Rattle.plaid_types.specs.Cards.{noSet, noMode, withSession, Reply}
+use Rattle.plaid_types.specs.declared.KeySetId.{KeySetId}
+use Rattle.plaid_types.specs.declared.KeySetSlot.{KeySetSlot}
+use Rattle.plaid_types.specs.declared.Session.{Session}
+use Rattle.plaid_types.specs.declared.Card.{Card}
+use Rattle.load.specs.Load.{some, repeated}
+use Rattle.load.specs.Laws.{GoodRecord, Stocked, IsLoaded, stocked-session}
+use Rattle.initial.specs.Initial.{slotOf, str1, blockOf, initialReply}
+use Rattle.final_command.specs.Final.{faKeyOf, keyOf, firstMode, finalReply}
+use Rattle.card.specs.Command.{replyTo, outcome, answerBytes, verdictOn}
+use Rattle.reader_list.specs.List.{given, listCommand, listNumber}
+use Rattle.reader_list.specs.Laws.{Taken, command-taken}
+use Rattle.reader_open.specs.Open.{noId, opened, openedAt, openNumber, winner, blockAt, textOf, divOf, rnd1Of}
+use Rattle.reader_open.specs.Laws.{opensEntry, winner-case}
+use Rattle.reader_open.specs.declared.Opened.{Opened}
+use Rattle.reader_seal.specs.Seal.{keysHashOf, sealCommand}
+use Rattle.reader_seal.specs.RoundTrip.{keysHash-bytes}
+use Rattle.reader_accept.specs.Accept.{acceptedOf, workAfter, recordPart}
+use Rattle.reader_accept.specs.RoundTrip.{cardReply, reply-accepted, reply-record}
+use Rattle.session_initial.specs.Held.{held, firstHeld, first-held}
+use Rattle.session_initial.specs.Answered.{Answers, list-answered, list-slot}
+use Rattle.session_final.specs.SealFrame.{seal-status, seal-ins}
+use Rattle.session_final.specs.SealText.{SharedSession, sealed}
+use Rattle.session_final.specs.SealReply.{sealedSlot, sealedRecord, sealed-found, length-sealedRecord, seal-reply}
+use Rattle.session.specs.Parts.{goes-on, call-bytes, call-card, block-text, text-div, text-rnd1, block-opens, winner-is, key-held}
+
+-- the reply to an initial and to a final command
+reply-initial : (c : Card) (cmd fresh d : List ℕ) → insOf (frameOf cmd) ≡ initialIns → dataOf cmd ≡ d → replyTo c cmd fresh ≡ initialReply c d fresh
+unfolding replyTo
+reply-initial c cmd fresh d i e = rw (i, e)
+
+reply-final : (c : Card) (cmd fresh : List ℕ) → insOf (frameOf cmd) ≡ finalIns → replyTo c cmd fresh ≡ finalReply c (dataOf cmd) fresh
+unfolding replyTo
+reply-final c cmd fresh i = rw i
+
+take-bytes : (n : ℕ) (s : List ℕ) → Bytes s → Bytes (take n s)
+take-bytes zero s b i = omega arith
+take-bytes (suc n) [] b i = omega arith
+take-bytes (suc n) (x ∷ s) b zero = b 0
+take-bytes (suc n) (x ∷ s) b (suc i) = take-bytes n s (λ k. b (suc k)) i
+
+part-bytes : (s : List ℕ) (p n : ℕ) → Bytes s → Bytes (part s p n)
+unfolding part
+part-bytes s p n b = take-bytes n (drop p s) (λ i. rw (getD-drop p s i 0) (b (p + i)))
+
+-- what List has shown that is not declined
+listing : (ids : List KeySetId) (n room : ℕ) → listNumber ids n room ≡ 0 → (1 ≤ n) × (n ≤ 16)
+unfolding listNumber
+listing ids n room z = by (eqb n 0) (ltb 16 n) refl refl z
+  where
+    by : (a b : Bool) → eqb n 0 ≡ a → ltb 16 n ≡ b → _≡_ {A = ℕ} (cond (a || b) 11 (cond (repeated (given ids n)) 12 (cond (ltb room (length (listCommand (given ids n)))) 13 0))) 0 → (1 ≤ n) × (n ≤ 16)
+    by true b p q e = absurd (omega arith)
+    by false true p q e = absurd (omega arith)
+    by false false p q e = (omega (arith, nonzero n p), ltb-false 16 n q)
+      where
+        nonzero : (m : ℕ) → eqb m 0 ≡ false → 1 ≤ m
+        nonzero zero h = absurd (true≢false h)
+        nonzero (suc m) h = omega arith
+
+length-pads : (fresh : List ℕ) → length fresh ≡ 253 → length (padBytes fresh) ≡ 203
+unfolding padBytes
+length-pads fresh e = omega (arith, length-drop 50 fresh)
+
+-- Open, where nothing is declined and the winner is known
+opened-at : (ids : List KeySetId) (n : ℕ) (blocks : List ℕ) (j : ℕ) → 1 ≤ n → n ≤ 16 → length blocks ≡ 256 * n → winner ids n blocks ≡ j → j < n →
+    opened ids n blocks ≡ openedAt (getD ids j noId) blocks j
+unfolding opened openNumber
+opened-at ids n blocks j a b e w h =
+    let x : eqb n 0 ≡ false = ne-eqb n 0 (λ z. omega arith) in
+    let y : ltb 16 n ≡ false = le-ltb 16 n b in
+    let z : eqb (length blocks) (256 * n) ≡ true = eq-eqb (length blocks) (256 * n) e in
+    let v : eqb (winner ids n blocks) n ≡ false = ne-eqb (winner ids n blocks) n (λ q. omega arith) in
+    simp (x, y, z, v) (ap (λ (i : ℕ). openedAt (getD ids i noId) blocks i) w)
+
+-- a session between a card c and a reader
+module _ (c : Card) (ids : List KeySetId) (n : ℕ) (fresh₁ : List ℕ) (room₁ : ℕ) (blocks fa r2 payload : List ℕ) (mode : ℕ) (fresh₂ : List ℕ) (room₂ : ℕ) (work : List ℕ) where
+  -- the KeySetIDs listed, List's command, and the card's answer to it
+  abbrev pub listed : List ℕ
+  listed = given ids n
+
+  abbrev pub answer₁ : List ℕ
+  answer₁ = answerBytes c (listCommand listed) fresh₁ room₁
+
+  -- "the card gets no other command in between": the card that the initial command returned
+  abbrev pub card₁ : Card
+  card₁ = outcome c (listCommand listed) fresh₁ room₁ .card
+
+  -- the first listed set that the card holds: its place in the list, and its slot
+  abbrev pub place : ℕ
+  place = firstHeld c listed
+
+  abbrev pub slot : KeySetSlot
+  slot = getD (c .sets) (slotOf c (encoded listed)) noSet
+
+  -- what Open hands back, Seal's command and KeysHash, and the card's answer to that command
+  abbrev pub open₁ : Opened
+  open₁ = opened ids n blocks
+
+  abbrev pub command₂ : List ℕ
+  command₂ = sealCommand fa (open₁ .«div_data») (open₁ .rnd1) r2 mode payload
+
+  abbrev pub hash : List ℕ
+  hash = keysHashOf (open₁ .rnd1) r2
+
+  abbrev pub answer₂ : List ℕ
+  answer₂ = answerBytes card₁ command₂ fresh₂ room₂
+
+  -- the conditions of the promise
+  pub record Conditions : Type 0 where
+    pub loaded : IsLoaded c
+    -- "none of 8 to 14, 16, 17 and 19 arises" (16 and 17 make no difference to the command)
+    pub list-room : ℕ
+    pub list-made : listNumber ids n list-room ≡ 0
+    pub first-call : outcome c (listCommand listed) fresh₁ room₁ .answer .number ≡ 0
+    pub total : length blocks ≡ 256 * n
+    pub second-call : outcome card₁ command₂ fresh₂ room₂ .answer .number ≡ 0
+    pub work-room : length answer₂ ≤ length work
+    -- "the first listed set that the card holds has equal FAKey at both ends"
+    pub some-held : some (held c) listed ≡ true
+    pub same-key : slot .«fa_key» ≡ fa
+    -- "platform decryption undoes encryption for it"
+    pub decrypted : blockAt blocks place ≡ answer₁
+    -- "no earlier entry's block opens"
+    pub no-earlier : (i : ℕ) → i < place → opensEntry ids blocks i ≡ false
+    -- "the mode is held"
+    pub mode-held : firstMode 0 mode (c .modes) < 16
+    -- what the types of the inputs say: an array of sixteen KeySetIDs, numbers of two bytes, and bytes
+    pub ids-long : length ids ≡ 16
+    pub ids-small : (i : ℕ) → getD listed i 0 < 65536
+    pub mode-small : mode < 65536
+    pub div-bytes : Bytes (c .«div_data»)
+    pub area-bytes : Bytes (c .area)
+    pub key-bytes : Bytes fa
+    pub rnd2-block : Block r2
+    pub payload-bytes : Bytes payload
+
+  module _ (k : Conditions) where
+    g : Stocked c
+    g = k .loaded .stocked
+
+    range : (1 ≤ n) × (n ≤ 16)
+    range = listing ids n (k .list-room) (k .list-made)
+
+    listed-long : length listed ≡ n
+    listed-long = length-take-le n (map (λ (x : KeySetId). x .0) ids) (omega (arith, length-map ids (λ (x : KeySetId). x .0), k .ids-long, range .1))
+
+    taken : Taken listed (listCommand listed)
+    taken = command-taken listed (omega (arith, listed-long, range .0)) (omega (arith, listed-long, range .1)) (k .ids-small)
+
+    ok₁ : eqb (verdictOn (listCommand listed) fresh₁ room₁ .status) 0x9000 ≡ true
+    ok₁ = goes-on c (listCommand listed) fresh₁ room₁ (taken .status) (k .first-call)
+
+    past : Passed (length (listCommand listed)) (frameOf (listCommand listed)) fresh₁ room₁
+    past = passed (length (listCommand listed)) (frameOf (listCommand listed)) fresh₁ room₁ (eqb-true (verdictOn (listCommand listed) fresh₁ room₁ .status) 0x9000 ok₁)
+
+    answers : Answers c fresh₁ (getD listed place 0) slot (initialReply c (encoded listed) fresh₁)
+    answers = list-answered c g listed fresh₁ (omega (arith, listed-long, range .1)) (k .some-held)
+
+    reply₁ : replyTo c (listCommand listed) fresh₁ ≡ initialReply c (encoded listed) fresh₁
+    reply₁ = reply-initial c (listCommand listed) fresh₁ (encoded listed) (taken .ins) (taken .list)
+
+    rnd1 : List ℕ
+    rnd1 = part fresh₁ 0 16
+
+    block : List ℕ
+    block = blockOf fresh₁ (str1 (getD listed place 0) (c .«div_data») (part fresh₁ 0 16))
+
+    block-is : blockAt blocks place ≡ block
+    unfolding block
+    block-is =
+        k .decrypted
+        ∙ call-bytes c (listCommand listed) fresh₁ room₁ (taken .status) (k .first-call)
+        ∙ ap (λ (r : Reply). r .bytes) reply₁
+        ∙ answers .bytes
+
+    opens-at : opensEntry ids blocks place ≡ true
+    unfolding block
+    opens-at =
+        let e : getD ids place noId .0 ≡ getD listed place 0 = listed-at in
+        rw (block-is, e)
+        (block-opens fresh₁ (getD listed place 0) (c .«div_data») (part fresh₁ 0 16) pads (past .pad-nonzero) (g .div-long) (length-part fresh₁ 0 16 (omega (arith, past .fresh-long))))
+      where
+        pads : length (padBytes fresh₁) ≡ 203
+        pads = length-pads fresh₁ (past .fresh-long)
+
+        listed-at : getD ids place noId .0 ≡ getD listed place 0
+        listed-at = sym (getD-take n (map (λ (x : KeySetId). x .0) ids) place 0 (omega (arith, first-held c listed (k .some-held) .within, listed-long)) ∙ List·getD-map (λ (x : KeySetId). x .0) ids place noId)
+
+    wins : winner ids n blocks ≡ place
+    wins =
+        winner-is ids n blocks place (omega (arith, first-held c listed (k .some-held) .within, listed-long)) opens-at (k .no-earlier)
+        (winner-case ids n blocks (omega (arith, k .ids-long, range .1)))
+
+    -- Open hands back the first listed set that the card holds
+    open-is : open₁ ≡ openedAt (getD ids place noId) blocks place
+    open-is = opened-at ids n blocks place (range .0) (range .1) (k .total) wins (omega (arith, first-held c listed (k .some-held) .within, listed-long))
+
+    lr : length (part fresh₁ 0 16) ≡ 16
+    lr = length-part fresh₁ 0 16 (omega (arith, past .fresh-long))
+
+    text-is : textOf (blockAt blocks place) ≡ str1 (getD listed place 0) (c .«div_data») (part fresh₁ 0 16)
+    unfolding block
+    text-is =
+        ap textOf block-is
+        ∙ block-text fresh₁ (getD listed place 0) (c .«div_data») (part fresh₁ 0 16) (length-pads fresh₁ (past .fresh-long)) (past .pad-nonzero) (g .div-long) lr
+
+    pub open-div : open₁ .«div_data» ≡ c .«div_data»
+    open-div =
+        ap (λ (x : Opened). x .«div_data») open-is
+        ∙ ap divOf text-is
+        ∙ text-div fresh₁ (getD listed place 0) (c .«div_data») (part fresh₁ 0 16) (length-pads fresh₁ (past .fresh-long)) (past .pad-nonzero) (g .div-long) lr
+
+    pub open-rnd1 : open₁ .rnd1 ≡ part fresh₁ 0 16
+    open-rnd1 =
+        ap (λ (x : Opened). x .rnd1) open-is
+        ∙ ap rnd1Of text-is
+        ∙ text-rnd1 fresh₁ (getD listed place 0) (c .«div_data») (part fresh₁ 0 16) (length-pads fresh₁ (past .fresh-long)) (past .pad-nonzero) (g .div-long) lr
+
+    -- the card after the initial command: its session is that of the set, with RND1
+    s₁ : Session
+    s₁ = record { opened = true; id = slot .id; rnd1 = part fresh₁ 0 16 }
+
+    card-is : card₁ ≡ withSession c s₁
+    unfolding s₁
+    card-is =
+        call-card c (listCommand listed) fresh₁ room₁ (taken .status) (k .first-call)
+        ∙ ap (withSession c) (ap (λ (r : Reply). r .session) reply₁ ∙ answers .session)
+
+    key-is : faKeyOf (withSession c s₁) ≡ fa
+    unfolding faKeyOf s₁
+    key-is =
+        let w = list-slot c g listed (omega (arith, listed-long, range .1)) (k .some-held) in
+        ap (λ (i : ℕ). keyOf (c .sets) i (c .«shill_key»)) (answers .id)
+        ∙ key-held c g (getD listed place 0) (slotOf c (encoded listed)) w (c .«shill_key»)
+        ∙ k .same-key
+
+    shared : SharedSession (withSession c s₁) (slot .id) fa (part fresh₁ 0 16) r2 mode payload
+    unfolding s₁
+    shared =
+        record {
+          in-session = refl;
+          same-key = key-is;
+          key-bytes = k .key-bytes;
+          div-block = record { long = g .div-long; byte = k .div-bytes };
+          rnd2-block = k .rnd2-block;
+          payload-bytes = k .payload-bytes;
+          mode-most = k .mode-small;
+        }
+
+    cmd₂ : List ℕ
+    cmd₂ = sealCommand fa (c .«div_data») (part fresh₁ 0 16) r2 mode payload
+
+    cmd-is : command₂ ≡ cmd₂
+    unfolding cmd₂
+    cmd-is = ap₂ (λ (d r : List ℕ). sealCommand fa d r r2 mode payload) open-div open-rnd1
+
+    rec : List ℕ
+    rec = sealedRecord (withSession c s₁) mode
+
+    answer-is : answer₂ ≡ cardReply (keysHashOf (part fresh₁ 0 16) r2) rec (c .«div_data»)
+    unfolding cmd₂ rec
+    answer-is =
+        let z : outcome (withSession c s₁) cmd₂ fresh₂ room₂ .answer .number ≡ 0 =
+        sym (ap₂ (λ (e : Card) (x : List ℕ). outcome e x fresh₂ room₂ .answer .number) card-is cmd-is) ∙ k .second-call in
+        ap₂ (λ (e : Card) (x : List ℕ). answerBytes e x fresh₂ room₂) card-is cmd-is
+        ∙ call-bytes (withSession c s₁) cmd₂ fresh₂ room₂ (seal-status fa (c .«div_data») (part fresh₁ 0 16) r2 mode payload) z
+        ∙ ap (λ (r : Reply). r .bytes) (reply-final (withSession c s₁) cmd₂ fresh₂ (seal-ins fa (c .«div_data») (part fresh₁ 0 16) r2 mode payload))
+        ∙ seal-reply (withSession c s₁) (slot .id) fa (part fresh₁ 0 16) r2 mode payload shared (stocked-session c s₁ g) (k .mode-held) fresh₂
+
+    good : GoodRecord (sealedSlot (withSession c s₁) mode) (c .«reply_size»)
+    unfolding s₁
+    good = g .good (firstMode 0 mode (c .modes)) (sealed-found (withSession c s₁) mode (stocked-session c s₁ g) (k .mode-held) .is-held)
+
+    rec-long : length rec ≡ sealedSlot (withSession c s₁) mode .len
+    unfolding rec
+    rec-long = length-sealedRecord (withSession c s₁) mode (stocked-session c s₁ g) (k .mode-held)
+
+    rec-bytes : Bytes rec
+    unfolding rec s₁
+    rec-bytes = part-bytes (c .area) (sealedSlot c mode .start) (sealedSlot c mode .len) (k .area-bytes)
+
+    h₁ : List ℕ
+    h₁ = keysHashOf (part fresh₁ 0 16) r2
+
+    room-is : length (cardReply h₁ rec (c .«div_data»)) ≤ length work
+    unfolding h₁
+    room-is = subst (λ (a : List ℕ). length a ≤ length work) answer-is (k .work-room)
+
+    hash-is : hash ≡ h₁
+    unfolding h₁
+    hash-is = ap (λ (r : List ℕ). keysHashOf r r2) open-rnd1
+
+    -- THE SESSION PROMISE: Accept gives no number, and returns the record of that mode
+    pub session-number : acceptedOf hash (open₁ .«div_data») answer₂ (length work) ≡ record { number = 0; length = sealedSlot c mode .len }
+    unfolding h₁ s₁ rec
+    session-number =
+        ap₂ (λ (a b : List ℕ). acceptedOf a b answer₂ (length work)) hash-is open-div
+        ∙ ap (λ (a : List ℕ). acceptedOf h₁ (c .«div_data») a (length work)) answer-is
+        ∙ reply-accepted h₁ rec (c .«div_data») work (keysHash-bytes (part fresh₁ 0 16) r2) rec-bytes (record { long = g .div-long; byte = k .div-bytes })
+        (omega (arith, rec-long, good .some-bytes)) (omega (arith, rec-long, good .most-bytes)) room-is
+        ∙ ap (λ (m : ℕ). record { number = 0; length = m }) rec-long
+
+    pub session-record : recordPart (workAfter hash (open₁ .«div_data») answer₂ work) (acceptedOf hash (open₁ .«div_data») answer₂ (length work)) ≡ sealedRecord c mode
+    unfolding h₁ s₁ rec
+    session-record =
+        ap₂ (λ (a b : List ℕ). recordPart (workAfter a b answer₂ work) (acceptedOf a b answer₂ (length work))) hash-is open-div
+        ∙ ap (λ (a : List ℕ). recordPart (workAfter h₁ (c .«div_data») a work) (acceptedOf h₁ (c .«div_data») a (length work))) answer-is
+        ∙ reply-record h₁ rec (c .«div_data») work (keysHash-bytes (part fresh₁ 0 16) r2) rec-bytes (record { long = g .div-long; byte = k .div-bytes })
+        (omega (arith, rec-long, good .some-bytes)) (omega (arith, rec-long, good .most-bytes)) room-is

@@ -1,0 +1,5 @@
+pub mod SealFrame
+pub mod Buffer
+pub mod SealText
+pub mod SealAccepted
+pub mod SealReply

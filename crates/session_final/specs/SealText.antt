@@ -1,0 +1,103 @@
+-- What a card in an open session deciphers from Seal's command, where both have the same FAKey, DivData and RND1: STR2 byte by byte, padded; so
+-- it reads Seal's mode and RND2, and has Seal's KeysHash. Assumes nothing.
+use mathlib.Core.Path.{_≡_, ap, ap₂, _∙_}
+use mathlib.Core.Bool.{true, cond}
+use mathlib.Core.List.{List, _++_}
+use Prim.Native.Nat.{ℕ, _+_, _*_, _<_}
+use native.Mathlib.Omega.{arith}
+use lib.ListN.{length, getD, replicate}
+use Rattle.octets.specs.Bytes.{Bytes, Block}
+use Rattle.octets.specs.Lists.{part, over}
+use Rattle.aes.specs.Aes.{aes, invAes}
+use Rattle.sha256.specs.Hash.{sha256}
+use Rattle.padding.specs.Method2.{blocksFor, padded}
+use Rattle.padding.specs.Laws.{length-padded}
+use Rattle.cbc.specs.Cbc.{decrypted}
+use Rattle.frame.specs.Frame.{dataOf}
+use Rattle.plaid_types.specs.declared.KeySetId.{KeySetId}
+use Rattle.plaid_types.specs.declared.Session.{Session}
+use Rattle.plaid_types.specs.declared.Card.{Card}
+use Rattle.final_command.specs.Final.{zeros, faKeyOf, rnd1Of, diversified, blocksIn, textOf, hashedOf, keysHash, opMode, decipheredText}
+use Rattle.reader_seal.specs.Seal.{keysHashOf, diversifiedBy, str2, sealedBlocks, lcOf, sealCommand}
+use Rattle.reader_seal.specs.Laws.{length-keysHash, length-str2, length-sealCommand}
+use Rattle.reader_seal.specs.RoundTrip.{deciphered-str2}
+use Rattle.session_final.specs.SealFrame.{seal-data-blocks}
+use Rattle.session_final.specs.Buffer.{over-part, over-mode, over-rnd2}
+
+-- a card in an open session, and what Seal takes: the session's FAKey and RND1, the card's DivData, RND2, a mode and a payload. (That Seal declines
+-- a payload over 205 bytes is no matter here.)
+pub record SharedSession (c : Card) (i : KeySetId) (fa r1 r2 : List ℕ) (mode : ℕ) (payload : List ℕ) : Type 0 where
+  pub in-session : c .session ≡ record { opened = true; id = i; rnd1 = r1 }
+  pub same-key : faKeyOf c ≡ fa
+  pub key-bytes : Bytes fa
+  pub div-block : Block (c .«div_data»)
+  pub rnd2-block : Block r2
+  pub payload-bytes : Bytes payload
+  pub mode-most : mode < 65536
+
+-- the data of Seal's command
+abbrev pub sealed : Card → List ℕ → List ℕ → List ℕ → ℕ → List ℕ → List ℕ
+sealed c fa r1 r2 mode payload = dataOf (sealCommand fa (c .«div_data») r1 r2 mode payload)
+
+-- the STR2 that Seal made
+abbrev pub sealedText : List ℕ → List ℕ → ℕ → List ℕ → List ℕ
+sealedText r1 r2 mode payload = str2 mode r2 payload (keysHashOf r1 r2)
+
+module _ (c : Card) (i : KeySetId) (fa r1 r2 : List ℕ) (mode : ℕ) (payload : List ℕ) (k : SharedSession c i fa r1 r2 mode payload) where
+  key-same : diversified c ≡ diversifiedBy fa (c .«div_data»)
+  unfolding diversified diversifiedBy
+  key-same = ap (λ (x : List ℕ). aes 4 x (c .«div_data»)) (k .same-key)
+
+  rnd1-same : rnd1Of c ≡ r1
+  unfolding rnd1Of
+  rnd1-same = ap (λ (s : Session). cond (s .opened) (s .rnd1) zeros) (k .in-session)
+
+  pub length-sealedText : length (sealedText r1 r2 mode payload) ≡ 34 + length payload
+  length-sealedText = length-str2 mode r2 payload (keysHashOf r1 r2) (k .rnd2-block .long) (length-keysHash r1 r2)
+
+  pub length-sealedPadded : length (padded (sealedText r1 r2 mode payload)) ≡ lcOf (length payload)
+  length-sealedPadded = length-padded (sealedText r1 r2 mode payload) ∙ ap (λ (n : ℕ). 16 * blocksFor n) length-sealedText
+
+  data-part : sealed c fa r1 r2 mode payload ≡ part (sealCommand fa (c .«div_data») r1 r2 mode payload) 5 (lcOf (length payload))
+  unfolding dataOf
+  data-part =
+      ap (part (sealCommand fa (c .«div_data») r1 r2 mode payload) 5) (omega (arith, length-sealCommand fa (c .«div_data») r1 r2 mode payload))
+
+  decrypted-same : (key s t : List ℕ) (n m : ℕ) → key ≡ diversifiedBy fa (c .«div_data») → n ≡ m → s ≡ t →
+      decrypted (invAes 4 key) zeros n s ≡ decrypted (invAes 4 (diversifiedBy fa (c .«div_data»))) zeros m t
+  decrypted-same key s t n m p q r =
+      ap (λ (x : List ℕ). decrypted (invAes 4 x) zeros n s) p
+      ∙ ap₂ (λ (x : ℕ) (y : List ℕ). decrypted (invAes 4 (diversifiedBy fa (c .«div_data»))) zeros x y) q r
+
+  -- the 240 bytes are the padded STR2 and zeros
+  pub seal-text : textOf c (sealed c fa r1 r2 mode payload) ≡ over (replicate 240 0) 0 (padded (sealedText r1 r2 mode payload))
+  unfolding textOf
+  seal-text =
+      ap (over (replicate 240 0) 0)
+      (decrypted-same (diversified c) (sealed c fa r1 r2 mode payload) (part (sealCommand fa (c .«div_data») r1 r2 mode payload) 5 (lcOf (length payload)))
+      (blocksIn (sealed c fa r1 r2 mode payload)) (sealedBlocks (length payload)) key-same (seal-data-blocks fa (c .«div_data») r1 r2 mode payload) data-part
+      ∙ deciphered-str2 fa (c .«div_data») r1 r2 mode payload (k .key-bytes) (k .div-block) (k .rnd2-block) (k .mode-most) (k .payload-bytes))
+
+  -- the deciphered text is STR2 byte by byte, padded
+  pub seal-deciphered : decipheredText c (sealed c fa r1 r2 mode payload) ≡ padded (sealedText r1 r2 mode payload)
+  unfolding decipheredText
+  seal-deciphered =
+      ap (λ (x : List ℕ). part x 0 (16 * blocksIn (sealed c fa r1 r2 mode payload))) seal-text
+      ∙ over-part (replicate 240 0) (padded (sealedText r1 r2 mode payload)) (16 * blocksIn (sealed c fa r1 r2 mode payload))
+      (length-sealedPadded ∙ omega (arith, seal-data-blocks fa (c .«div_data») r1 r2 mode payload))
+
+  -- the card reads the mode that Seal took
+  pub seal-mode : opMode (textOf c (sealed c fa r1 r2 mode payload)) ≡ mode
+  unfolding opMode
+  seal-mode =
+      ap (λ (x : List ℕ). getD x 0 0 * 256 + getD x 1 0) seal-text ∙ over-mode (replicate 240 0) mode r2 payload (keysHashOf r1 r2)
+
+  -- and the RND2
+  pub seal-rnd2 : part (textOf c (sealed c fa r1 r2 mode payload)) 2 16 ≡ r2
+  seal-rnd2 =
+      ap (λ (x : List ℕ). part x 2 16) seal-text ∙ over-rnd2 (replicate 240 0) mode r2 payload (keysHashOf r1 r2) 16 (k .rnd2-block .long)
+
+  -- so both have one KeysHash
+  pub seal-keysHash : keysHash c (sealed c fa r1 r2 mode payload) ≡ keysHashOf r1 r2
+  unfolding keysHash keysHashOf hashedOf
+  seal-keysHash = ap₂ (λ (x y : List ℕ). part (sha256 (x ++ y)) 0 16) rnd1-same seal-rnd2
