@@ -1,10 +1,11 @@
 -- `reader_seal::write_command` meets its contract: its bytes are written one behind the other (`command-writes`). Assumes nothing.
 use borrow.Author.Needs.{needs}
-use mathlib.Core.Path.{sym, ap, _∙_}
+use mathlib.Core.Path.{_≡_, sym, ap, _∙_}
 use Prim.Native.Nat.{_+_, _-_}
 use native.Mathlib.Omega.{arith}
 use lib.ListN.{length}
 use Rattle.octets.specs.Lists.{over}
+use Rattle.reader_seal.specs.Seal.{lcOf}
 use Rattle.reader_seal.specs.Laws.{length-sealedData}
 use Rattle.reader_seal.proofs.Writes.{put-over, command-writes}
 use Rattle.reader_seal.proofs.write_command.Statement.{statement}
@@ -46,14 +47,14 @@ same-length c = search needs
 returns : tie.Need-returns
 returns c =
     let s = c .before .before .before .before .before .before .before .before .before .before .before .before .before .before .before .before in
-    let d = length-sealedData (s .args .key) (s .args .mode) (s .args .rnd2) (s .args .payload .now) (s .args .hash) in
+    let m : lcOf (length (s .args .payload .now)) ≡ 5 + s .args .lc - 5 = omega (arith, s .pre .1) in
     command-writes
     (s .args .lc)
     _
     _
-    (d ∙ sym (s .pre .1))
+    (length-sealedData _ _ _ _ _ ∙ sym (s .pre .1))
     (c .before .before .before .before .before .before .before .before .before .before .before .copy-at .ensures)
-    (put-over _ _ 5 (5 + s .args .lc - 5) (ap length (c .before .before .before .before .before .before .before .write-data .ensures) ∙ omega (arith, d, s .pre .1)) ∙ ap (over _ 5) (c .before .before .before .before .before .before .before .write-data .ensures))
+    (put-over _ _ 5 (5 + s .args .lc - 5) (ap length (c .before .before .before .before .before .before .before .write-data .ensures) ∙ length-sealedData _ _ _ _ _ ∙ m) ∙ ap (over _ 5) (c .before .before .before .before .before .before .before .write-data .ensures))
     (c .before .before .copy-at2 .ensures)
 
 pub write-command-spec : {M : Type 1} → statement M
