@@ -1,5 +1,3 @@
 pub mod Field
 pub mod Matrix
 pub mod Linear
-pub mod Undo
-pub mod Inverse

@@ -7,7 +7,7 @@ use lib.Bits.{bitXor}
 use Rattle.octets.specs.Bytes.{Bytes, Block}
 use Rattle.octets.specs.Xor.{xor-cancel}
 use Rattle.field.specs.Matrix.{rowTimes}
-use Rattle.field.specs.Undo.{inv-mix, mix-inv}
+use Rattle.field_laws.specs.Undo.{inv-mix, mix-inv}
 use Rattle.sbox.specs.SubBytes.{sbox}
 use Rattle.sbox.specs.InvSubBytes.{invSbox}
 use Rattle.sbox.specs.Rule.{inv-of-sbox, sbox-of-inv}

@@ -10,7 +10,7 @@ use lib.ListN.{length, getD}
 use Rattle.octets.specs.Lists.{table, tabled, getD-table}
 use Rattle.octets.specs.Tests.{both, both-left, both-right, below, below-at, every, every-at}
 use Rattle.field.specs.Field.{inverse}
-use Rattle.field.specs.Inverse.{inverse-inverse, inverse-lt}
+use Rattle.field_laws.specs.Inverse.{inverse-inverse, inverse-lt}
 use Rattle.sbox.specs.SubBytes.{affine, sbox}
 use Rattle.sbox.specs.InvSubBytes.{invAffine, invSbox}
 
