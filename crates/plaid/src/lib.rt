@@ -11,20 +11,20 @@ use reader_list::Written;
 use reader_open::Opened;
 use reader_seal::Sealed;
 ghost use mathlib.Core.Path.{_≡_};
-ghost use lib.ListN.{length};
+ghost use mathlib.Core.List.{[], _∷_};
+ghost use lib.ListN.{length, getD};
 ghost use Rattle.octets.specs.Lists.{over};
 ghost use Rattle.card.specs.Command.{outcome, answerBytes};
 ghost use Rattle.reader_list.specs.List.{listed, listOutput};
 ghost use Rattle.reader_open.specs.Open.{opened};
 ghost use Rattle.reader_seal.specs.Seal.{sealedOf, sealOutput};
 ghost use Rattle.reader_accept.specs.Accept.{acceptedOf, workAfter};
-ghost use Rattle.plaid.specs.Interface.{loadOf};
+ghost use Rattle.load.specs.Load.{loaded};
+ghost use Rattle.plaid.specs.Interface.{blankSet, loadOf};
 
-// What a load is given beside the record area. What stands past a count is not looked at.
+// What a load is given beside the key sets and the record area. What stands past the count is not looked at.
 #[repr(C)]
 pub struct Given {
-    pub sets: [KeySet; 8],
-    pub set_count: usize,
     pub modes: [Mode; 16],
     pub mode_count: usize,
     pub div_data: [u8; 16],
@@ -32,17 +32,50 @@ pub struct Given {
     pub shill_handle: u8,
 }
 
-#[no_mangle]
-pub extern "C" fn plaid_load(given: Given, area: &[u8]) -> Loaded
-    ensures { λ r. ⌜ r ≡ loadOf given (now (area .entry)) ⌝ }
+// What is handed on where the list has no set.
+fn blank_set() -> KeySet
+    ensures { λ r. ⌜ r ≡ blankSet ⌝ }
 {
-    let sets = given.sets;
+    KeySet {
+        id: KeySetId(0),
+        handle: 0,
+        fa_key: [0u8; 16],
+    }
+}
+
+// A key set of the list, or `d` past its end.
+fn pick(s: &[KeySet], i: usize, d: KeySet) -> KeySet
+    ensures { λ r. ⌜ r ≡ getD (now (s .entry)) i d ⌝ }
+{
+    if i < s.len() {
+        return s[i];
+    }
+    d
+}
+
+// A load of the first eight key sets of a list of so many: what follows is covered, and sees no lent structs.
+fn load_eight(
+    set_count: usize,
+    k0: KeySet,
+    k1: KeySet,
+    k2: KeySet,
+    k3: KeySet,
+    k4: KeySet,
+    k5: KeySet,
+    k6: KeySet,
+    k7: KeySet,
+    given: Given,
+    area: &[u8],
+) -> Loaded
+    ensures { λ r. ⌜ r ≡ loaded (k0 ∷ k1 ∷ k2 ∷ k3 ∷ k4 ∷ k5 ∷ k6 ∷ k7 ∷ []) «set_count» (given .modes) (given .«mode_count») (now (area .entry)) (given .«div_data») (given .«shill_key») (given .«shill_handle») ⌝ }
+{
+    let sets = [k0, k1, k2, k3, k4, k5, k6, k7];
     let modes = given.modes;
     let div_data = given.div_data;
     let shill_key = given.shill_key;
     load::load(
         sets,
-        given.set_count,
+        set_count,
         modes,
         given.mode_count,
         area,
@@ -50,6 +83,23 @@ pub extern "C" fn plaid_load(given: Given, area: &[u8]) -> Loaded
         shill_key,
         given.shill_handle,
     )
+}
+
+// The key sets come in the caller's list, lent.
+#[no_mangle]
+pub extern "C" fn plaid_load(sets: &[KeySet], given: Given, area: &[u8]) -> Loaded
+    ensures { λ r. ⌜ r ≡ loadOf (now (sets .entry)) given (now (area .entry)) ⌝ }
+{
+    let none = blank_set();
+    let k0 = pick(sets, 0, none);
+    let k1 = pick(sets, 1, none);
+    let k2 = pick(sets, 2, none);
+    let k3 = pick(sets, 3, none);
+    let k4 = pick(sets, 4, none);
+    let k5 = pick(sets, 5, none);
+    let k6 = pick(sets, 6, none);
+    let k7 = pick(sets, 7, none);
+    load_eight(sets.len(), k0, k1, k2, k3, k4, k5, k6, k7, given, area)
 }
 
 #[no_mangle]
