@@ -80,8 +80,6 @@ pub struct Outcome {
 #[repr(C)]
 #[derive(Clone, Copy)]
 pub struct Given {
-    pub sets: [KeySet; 8],
-    pub set_count: usize,
     pub modes: [Mode; 16],
     pub mode_count: usize,
     pub div_data: [u8; 16],
@@ -154,7 +152,7 @@ pub struct Accepted {
 
 #[link(name = "plaid", kind = "static")]
 unsafe extern "C" {
-    fn plaid_load(given: Given, area: *const u8, area_len: usize) -> Loaded;
+    fn plaid_load(sets: *const KeySet, set_count: usize, given: Given, area: *const u8, area_len: usize) -> Loaded;
     fn plaid_command(card: Card, command: *const u8, command_len: usize, fresh: *const u8, fresh_len: usize, out: *mut u8, out_len: usize) -> Outcome;
     fn plaid_list(of: Ids, out: *mut u8, out_len: usize) -> Written;
     fn plaid_open(of: Ids, blocks: *const u8, blocks_len: usize) -> Opened;
@@ -162,24 +160,19 @@ unsafe extern "C" {
     fn plaid_accept(of: Accepting, response: *const u8, response_len: usize, work: *mut u8, work_len: usize) -> Accepted;
 }
 
-/// A load of any number of key sets and modes: the library looks at the counts, and at no more than the first eight and sixteen.
+/// A load of any number of key sets and modes: of the modes the library looks at the count and at no more than the first sixteen.
 pub fn run_load(sets: &[KeySet], modes: &[Mode], area: &[u8], div_data: [u8; 16], shill_key: [u8; 16], shill_handle: u8) -> Loaded {
     let mut given = Given {
-        sets: [KeySet { id: 0, handle: 0, fa_key: [0; 16] }; 8],
-        set_count: sets.len(),
         modes: [Mode { id: 0, start: 0, len: 0 }; 16],
         mode_count: modes.len(),
         div_data,
         shill_key,
         shill_handle,
     };
-    for (to, from) in given.sets.iter_mut().zip(sets) {
-        *to = *from;
-    }
     for (to, from) in given.modes.iter_mut().zip(modes) {
         *to = *from;
     }
-    unsafe { plaid_load(given, area.as_ptr(), area.len()) }
+    unsafe { plaid_load(sets.as_ptr(), sets.len(), given, area.as_ptr(), area.len()) }
 }
 
 pub fn run_command(card: Card, command: &[u8], fresh: &[u8], out: &mut [u8]) -> Outcome {

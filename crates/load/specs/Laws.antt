@@ -125,6 +125,16 @@ module _ (sets : List KeySet) (n : ℕ) (modes : List Mode) (m : ℕ) (area div 
   unfolding loaded
   load-refused e = simp (ne-eqb (refusal sets n modes m (length area) handle) 0 e)
 
+-- a load looks at the sets counted, and at none where it refuses their count
+module _ (a b : List KeySet) (n : ℕ) (modes : List Mode) (m : ℕ) (area div key : List ℕ) (handle : ℕ) where
+  counted-by : (t : Bool) → miscounted 8 n ≡ t → (n ≤ 8 → take n a ≡ take n b) → loaded a n modes m area div key handle ≡ loaded b n modes m area div key handle
+  unfolding loaded refusal
+  counted-by true e h = simp e
+  counted-by false e h = simp (h (counted 8 n e .1))
+
+  pub counted-only : (n ≤ 8 → take n a ≡ take n b) → loaded a n modes m area div key handle ≡ loaded b n modes m area div key handle
+  counted-only = counted-by (miscounted 8 n) refl
+
 -- slots that are filled from the first on: how many, which hold what was given, and which are empty
 pub length-filled : {A : Type 0} (k : ℕ) (d : A) (l : List A) → length l ≤ k → length (filled k d l) ≡ k
 unfolding filled
@@ -270,21 +280,21 @@ module _ (sets : List KeySet) (modes : List Mode) (area div key : List ℕ) (han
       (good-by (getD modes i pastMode) (length area) (firstSize modes) (some-none (badRecord (length area)) modes pastMode i r h) a
       (some-none (λ (x : Mode). not (eqb (replySize (x .len)) (firstSize modes))) modes pastMode i u h))
 
--- a load that is not refused makes a loaded card. The lengths are those that the types of its inputs say
+-- a load that is not refused makes a loaded card. The lengths are those that the types of its inputs say, and there are as many sets as are counted
 pub is-loaded : (sets : List KeySet) (n : ℕ) (modes : List Mode) (m : ℕ) (area div key : List ℕ) (handle : ℕ) →
     refusal sets n modes m (length area) handle ≡ 0 →
-    length sets ≡ 8 →
+    n ≤ length sets →
     length modes ≡ 16 →
     length div ≡ 16 →
     length key ≡ 16 →
-    ((i : ℕ) → i < 8 → length (getD sets i pastSet .«fa_key») ≡ 16) →
+    ((i : ℕ) → i < n → length (getD sets i pastSet .«fa_key») ≡ 16) →
     IsLoaded (loadedCard (take n sets) (take m modes) area div key handle)
 unfolding loadedCard
 is-loaded sets n modes m area div key handle z ls lm ld lk lf =
     let k = accepted sets n modes m (length area) handle z in
     let s : List KeySet = take n sets in
     let l : List Mode = take m modes in
-    let hs : length s ≡ n = length-take-le n sets (omega (arith, k .sets-most)) in
+    let hs : length s ≡ n = length-take-le n sets ls in
     let hl : length l ≡ m = length-take-le m modes (omega (arith, k .modes-most)) in
     let g = mode-good s l area div key handle 0 (k .records-good) (k .area-most) (k .sizes-equal) (omega (arith, k .modes-some)) in
     record {
@@ -297,7 +307,7 @@ is-loaded sets n modes m area div key handle z ls lm ld lk lf =
             key-long = lk;
             fa-long =
                 λ i. fa-by s l area div key handle i (ltb i (length s)) refl
-                (λ j h. ap (λ (x : KeySet). length (x .«fa_key»)) (getD-take n sets j pastSet (omega arith)) ∙ lf j (omega (arith, k .sets-most)));
+                (λ j h. ap (λ (x : KeySet). length (x .«fa_key»)) (getD-take n sets j pastSet (omega arith)) ∙ lf j (omega arith));
             size-least = omega (arith, g .some-bytes, g .size);
             size-most = omega (arith, g .most-bytes, g .size);
             good = λ i h. mode-good s l area div key handle i (k .records-good) (k .area-most) (k .sizes-equal) (mode-given s l area div key handle i h);
