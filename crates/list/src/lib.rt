@@ -101,6 +101,21 @@ pub fn entry_at(d: &[u8], at: usize) -> Entry
     }
 }
 
+// A place inside the caller's data.
+pub struct Cursor<'a> {
+    pub list: &'a [u8],
+    pub at: usize,
+}
+
+impl<'a> Cursor<'a> {
+    // The entry at the cursor's place.
+    pub fn step(self) -> Entry
+        ensures { λ r. ⌜ r ≡ entryAt (now (self .entry .list)) (self .entry .at) ⌝ }
+    {
+        entry_at(self.list, self.at)
+    }
+}
+
 // Where the first entry stands: behind tag 30 and a length that says all that is left.
 fn head(d: &[u8]) -> Length
     ensures { λ r. ⌜ r ≡ head (now (d .entry)) ⌝ }
