@@ -70,7 +70,7 @@ fn compare_places(sets: [KeySetSlot; 8], d: &[u8]) -> Found
     let mut count: usize = 0;
     let mut j: usize = 0;
     while j < n {
-        let e = list::entry_at(d, p);
+        let e = list::step_from(d, p);
         let f = compare_slots(sets, both(l.formed, e.ok), e.id, s);
         s = f.sum;
         count += f.count;

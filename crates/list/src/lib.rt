@@ -72,7 +72,7 @@ fn word(high: u8, low: u8) -> u16
 }
 
 // The entry at a place: tag 04, length 2, KeySetID.
-pub fn entry_at(d: &[u8], at: usize) -> Entry
+fn entry_at(d: &[u8], at: usize) -> Entry
     ensures { λ r. ⌜ r ≡ entryAt (now (d .entry)) at ⌝ }
 {
     if d.len() <= at {
@@ -116,6 +116,13 @@ impl<'a> Cursor<'a> {
     }
 }
 
+// The same with plain parameters, so that no other caller needs a walk by hand.
+pub fn step_from(d: &[u8], at: usize) -> Entry
+    ensures { λ r. ⌜ r ≡ entryAt (now (d .entry)) at ⌝ }
+{
+    Cursor { list: d, at: at }.step()
+}
+
 // Where the first entry stands: behind tag 30 and a length that says all that is left.
 fn head(d: &[u8]) -> Length
     ensures { λ r. ⌜ r ≡ head (now (d .entry)) ⌝ }
@@ -143,7 +150,7 @@ fn walk(d: &[u8], at: usize, n: usize) -> usize
     let mut p = at;
     let mut j: usize = 0;
     while j < n {
-        let e = entry_at(d, p);
+        let e = step_from(d, p);
         p = e.next;
         j += 1;
     }

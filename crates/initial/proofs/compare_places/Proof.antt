@@ -23,8 +23,8 @@ parse-requires c κs = search needs
 loop-holds : tie.Need-loop-holds Inv-loop μ-loop
 loop-holds c = places-start _ _ _ _ _
 
-entry-at-requires : tie.Need-entry-at-requires Inv-loop μ-loop
-entry-at-requires c κs = search needs
+step-from-requires : tie.Need-step-from-requires Inv-loop μ-loop
+step-from-requires c κs = search needs
 
 both-requires : tie.Need-both-requires Inv-loop μ-loop
 both-requires c κs = search needs
@@ -57,7 +57,7 @@ loop-again c =
     (search needs)
     (c .before .before .before .before .before .loop-test .taken)
     (c .before .before .before .before .before .before .loop .inv)
-    (c .before .before .before .before .entry-at .ensures)
+    (c .before .before .before .before .step-from .ensures)
     (c .before .before .before .both .ensures)
     (c .before .before .compare-slots .ensures)
     (c .first-of .ensures)
@@ -77,7 +77,7 @@ compare-places-spec =
     μ-loop
     parse-requires
     loop-holds
-    entry-at-requires
+    step-from-requires
     both-requires
     compare-slots-requires
     add-count

@@ -18,8 +18,8 @@ loop-holds : tie.Need-loop-holds Inv-loop μ-loop
 unfolding walked
 loop-holds c = (search needs, refl)
 
-entry-at-requires : tie.Need-entry-at-requires Inv-loop μ-loop
-entry-at-requires c κs = search needs
+step-from-requires : tie.Need-step-from-requires Inv-loop μ-loop
+step-from-requires c κs = search needs
 
 add-j : tie.Need-add-j Inv-loop μ-loop
 add-j c = search needs
@@ -28,7 +28,7 @@ loop-less : tie.Need-loop-less Inv-loop μ-loop
 loop-less c = search needs
 
 loop-again : tie.Need-loop-again Inv-loop μ-loop
-loop-again c = (search needs, walk-turn _ _ _ _ (c .entry-at .result) (c .before .before .loop .inv .1) (c .entry-at .ensures))
+loop-again c = (search needs, walk-turn _ _ _ _ (c .step-from .result) (c .before .before .loop .inv .1) (c .step-from .ensures))
 
 returns : tie.Need-returns Inv-loop μ-loop
 returns c =
@@ -38,4 +38,4 @@ returns c =
 pub walk-spec : {M : Type 1} → statement M
 walk-spec =
     tie.close
-    (tie.spec Inv-loop μ-loop loop-holds entry-at-requires add-j loop-less loop-again returns)
+    (tie.spec Inv-loop μ-loop loop-holds step-from-requires add-j loop-less loop-again returns)
