@@ -117,10 +117,10 @@ impl<'a> Cursor<'a> {
 }
 
 // The same with plain parameters, so that no other caller needs a walk by hand.
-pub fn step_from(d: &[u8], at: usize) -> Entry
-    ensures { λ r. ⌜ r ≡ entryAt (now (d .entry)) at ⌝ }
+pub fn step_from(list: &[u8], at: usize) -> Entry
+    ensures { λ r. ⌜ r ≡ entryAt (now (list .entry)) at ⌝ }
 {
-    Cursor { list: d, at: at }.step()
+    Cursor { list, at }.step()
 }
 
 // Where the first entry stands: behind tag 30 and a length that says all that is left.
