@@ -14,7 +14,6 @@ use base.Logic.{SProp, ent, sep, emp, via, emp∗, comm∗, snd∗, exE, id⊢}
 use base.Fml.{fat, froom, fdies}
 use prog.Wp.{Heap, Env, Calls, Loops}
 use ghost.Atoms.{Atoms, sem}
-use contract.Lifetimes.{Lfts}
 use contract.Monad.{fact}
 use types.Kit.{Given, Item, ‵, raw, _⊛_, some, later, Post, atRet, prop, runs, lands, Seq, Step, step, _$_, move, use1, split, pick, await}
 use types.Run.{Opds, look, init, forget, stop, from, land, returns, free1, free0}
@@ -51,7 +50,7 @@ module _ {M : Type 1} (𝓤 : URA M) (H : Heap 𝓤) (A : Atoms 𝓤) (T : Ended
     States φ = (r : Found) (e : AtExit T (y .0 .0)) → ent 𝓤 (c (y .0 .0) (y .0 .3) .ensures (y .1) r e) (fact 𝓤 (φ r))
 
     -- the parameters have no `&mut`: what is said of last values is let go
-    pub told : (φ : Found → Type 0) → States φ → (r : Found) → ent 𝓤 (ensured 𝓤 H A T c (y .0 .0) (y .0 .3) (y .1) r) (fact 𝓤 (φ r))
+    told : (φ : Found → Type 0) → States φ → (r : Found) → ent 𝓤 (ensured 𝓤 H A T c (y .0 .0) (y .0 .3) (y .1) r) (fact 𝓤 (φ r))
     told φ states r = exE 𝓤 _ (λ ws. via 𝓤 _ (snd∗ 𝓤 (sem 𝓤 H A (lasts T (y .0 .0) (y .0 .3) ws)) _) (states r (atExit T (y .0 .0) (y .0 .3) ws)))
 
 module _ {M : Type 1} {𝓤 : URA M} {H : Heap 𝓤} {A : Atoms 𝓤} {K : Type 0} {W : Given 𝓤 H A} {C : Calls 𝓤 H} {Λ : Loops 𝓤 H} where
