@@ -1,0 +1,267 @@
+//! The card of document 01.
+
+use crate::aes::{self, Block};
+use crate::fault::Fault;
+use crate::padding;
+use crate::work::Work;
+
+#[derive(Clone, Copy, PartialEq)]
+pub struct KeySet {
+    pub id: u16,
+    pub handle: u8,
+    pub fa_key: Block,
+}
+
+#[derive(Clone, Copy, PartialEq)]
+pub struct Mode {
+    pub id: u16,
+    pub start: usize,
+    pub len: usize,
+}
+
+/// What a load gives.
+#[derive(Clone, PartialEq)]
+pub struct Given {
+    pub sets: Vec<KeySet>,
+    pub modes: Vec<Mode>,
+    pub area: Vec<u8>,
+    pub div_data: Block,
+    pub shill_key: Block,
+    pub shill_handle: u8,
+}
+
+#[derive(Clone, Copy, PartialEq)]
+pub struct Session {
+    pub id: u16,
+    pub rnd1: Block,
+}
+
+/// Beside what its load gave, and B, a card keeps only its session. Slots behind the given sets and modes are empty.
+#[derive(Clone, PartialEq)]
+pub struct Card {
+    pub given: Given,
+    pub reply_size: usize,
+    pub session: Option<Session>,
+}
+
+/// A decline's number, and the part of document 01's sentence that applied.
+#[derive(Clone, Copy)]
+pub struct Decline {
+    pub number: u8,
+    pub why: &'static str,
+}
+
+/// `Err` with this number and reason if the sentence applies.
+pub fn decline_if(applies: bool, number: u8, why: &'static str) -> Result<(), Decline> {
+    if applies { Err(Decline { number, why }) } else { Ok(()) }
+}
+
+pub fn has_repeated<T: PartialEq>(mut items: impl Iterator<Item = T> + Clone) -> bool {
+    std::iter::from_fn(|| items.next().map(|item| items.clone().any(|other| other == item))).any(|repeated| repeated)
+}
+
+/// B = floor((record length + 16)/16) + 1.
+pub fn reply_size(record: usize) -> usize {
+    (record + 16) / 16 + 1
+}
+
+pub fn load(given: &Given) -> Result<Card, Decline> {
+    decline_if(given.sets.is_empty(), 1, "no key set")?;
+    decline_if(given.sets.len() > 8, 1, "over 8 key sets")?;
+    decline_if(has_repeated(given.sets.iter().map(|s| s.id)), 2, "repeated KeySetID")?;
+    decline_if(given.sets.iter().any(|s| s.handle == given.shill_handle), 3, "a set with the shill handle")?;
+    decline_if(given.modes.is_empty(), 4, "no mode")?;
+    decline_if(given.modes.len() > 16, 4, "over 16 modes")?;
+    decline_if(has_repeated(given.modes.iter().map(|m| m.id)), 5, "repeated OpModeID")?;
+    decline_if(given.area.len() > 1024, 6, "area over 1,024")?;
+    decline_if(given.modes.iter().any(|m| m.len == 0), 6, "a record empty")?;
+    decline_if(given.modes.iter().any(|m| m.len > 64), 6, "a record over 64")?;
+    let inside = |m: &Mode| m.start.checked_add(m.len).is_some_and(|end| end <= given.area.len());
+    decline_if(!given.modes.iter().all(inside), 6, "a record outside the area")?;
+    let reply_size = reply_size(given.modes[0].len);
+    decline_if(given.modes.iter().any(|m| self::reply_size(m.len) != reply_size), 7, "unequal B")?;
+    Ok(Card { given: given.clone(), reply_size, session: None })
+}
+
+/// A command call's answer. `why` says for the statistics which rule decided; it is no part of the answer.
+pub struct Answer {
+    pub number: u8,
+    pub status: u16,
+    pub work: Work,
+    pub length: usize,
+    pub handle: u8,
+    pub why: &'static str,
+}
+
+impl Answer {
+    fn declined(number: u8, status: u16, why: &'static str) -> Answer {
+        Answer { number, status, work: Work::default(), length: 0, handle: 0, why }
+    }
+
+    fn given(bytes: &[u8], out: &mut [u8], handle: u8, work: Work, why: &'static str) -> Answer {
+        out[..bytes.len()].copy_from_slice(bytes);
+        Answer { number: 0, status: 0x9000, work, length: bytes.len(), handle, why }
+    }
+}
+
+pub fn command(card: &mut Card, command: &[u8], fresh: &[u8], out: &mut [u8], fault: Fault) -> Answer {
+    if let Err(decline) = lent_fault(fresh, out.len()) {
+        return Answer::declined(decline.number, 0, decline.why);
+    }
+    if let Some((status, why)) = frame_fault(command) {
+        return Answer::declined(0, status, why);
+    }
+    let data = &command[5..command.len() - 1];
+    if command[1] == 0x87 { initial(card, data, fresh, out, fault) } else { final_command(card, data, fresh, out, fault) }
+}
+
+fn lent_fault(fresh: &[u8], out: usize) -> Result<(), Decline> {
+    decline_if(fresh.len() != 253, 8, "fresh bytes not 253")?;
+    decline_if(fresh[50..].contains(&0), 9, "a zero pad byte")?;
+    decline_if(out < 256, 10, "output below 256")
+}
+
+/// CLA 00, INS 87 or 86, P1 P2 0000, Lc from 1 to 255, Lc data bytes, Le 00; the status of the first fault.
+fn frame_fault(command: &[u8]) -> Option<(u16, &'static str)> {
+    match *command {
+        [] | [_] | [_, _] | [_, _, _] => Some((0x6700, "under four bytes")),
+        [1..=0xff, ..] => Some((0x6e00, "CLA")),
+        [_, 0..=0x85 | 0x88..=0xff, ..] => Some((0x6d00, "INS")),
+        [_, _, p1, p2, ..] if (p1, p2) != (0, 0) => Some((0x6a86, "P1 P2")),
+        [_, _, _, _] => Some((0x6700, "no Lc")),
+        [_, _, _, _, 0, ..] => Some((0x6700, "Lc 0")),
+        [_, _, _, _, lc, ..] if command.len() != usize::from(lc) + 6 => Some((0x6700, "total not Lc + 6")),
+        [.., 0] => None,
+        _ => Some((0x6700, "Le not 00")),
+    }
+}
+
+/// One element: its tag, a length of the short form or of the form 81 and one byte, so many bytes; and what stands behind it.
+fn element(tag: u8, data: &[u8]) -> Option<(&[u8], &[u8])> {
+    let (length, rest) = match data {
+        [found, short @ 0..=0x7f, rest @ ..] if *found == tag => (*short, rest),
+        [found, 0x81, length, rest @ ..] if *found == tag => (*length, rest),
+        _ => return None,
+    };
+    rest.split_at_checked(usize::from(length))
+}
+
+/// The KeySetIDs of a SEQUENCE OF OCTET STRING of size 2, `None` for a malformed list.
+pub fn listed_ids(data: &[u8]) -> Option<Vec<u16>> {
+    let (mut entries, left_over) = element(0x30, data)?;
+    let mut ids = Vec::new();
+    while !entries.is_empty() {
+        let (id, rest) = element(0x04, entries)?;
+        ids.push(u16::from_be_bytes(id.try_into().ok()?));
+        entries = rest;
+    }
+    if left_over.is_empty() { Some(ids) } else { None }
+}
+
+/// Compares exactly floor(Lc/4) places with all eight slots. Gives the slot of the first entry that the card holds.
+fn walk(card: &Card, ids: &[u16], places: usize, work: &mut Work, fault: Fault) -> Option<usize> {
+    let mut winner = None;
+    for place in 0..places {
+        for slot in 0..8 {
+            let matched = work.compare(ids.get(place).copied(), card.given.sets.get(slot).map(|s| s.id));
+            let earlier_slot = fault == Fault::SlotOrderWins && winner.is_some_and(|w| slot < w);
+            if matched && (winner.is_none() || earlier_slot) {
+                winner = Some(slot);
+            }
+        }
+        if fault == Fault::WalkEndsAtMatch && winner.is_some() {
+            break;
+        }
+    }
+    winner
+}
+
+fn initial(card: &mut Card, data: &[u8], fresh: &[u8], out: &mut [u8], fault: Fault) -> Answer {
+    let mut work = Work::default();
+    let list = listed_ids(data);
+    let why = if list.is_none() { "initial refused: malformed" } else { "initial refused: no match" };
+    let winner = walk(card, &list.unwrap_or_default(), data.len() / 4, &mut work, fault);
+    let mut last = fresh[..50].to_vec();
+    let (mut handle, mut why) = (card.given.shill_handle, why);
+    card.session = winner.map(|slot| {
+        let set = &card.given.sets[slot];
+        let rnd1: Block = fresh[..16].try_into().unwrap();
+        last = [&set.id.to_be_bytes()[..], &card.given.div_data, &rnd1, &rnd1].concat();
+        (handle, why) = (set.handle, "initial accepted");
+        Session { id: set.id, rnd1 }
+    });
+    let block = [&[0, 2], &fresh[50..], &[0], &last].concat();
+    Answer::given(&block, out, handle, work, why)
+}
+
+/// The FAKey and RND1 of a final command: the session's, or what stands for them.
+pub fn final_keys(card: &Card) -> (Block, Block) {
+    let set = |session: &Session| card.given.sets.iter().find(|s| s.id == session.id).unwrap().fa_key;
+    card.session.as_ref().map_or((card.given.shill_key, [0; 16]), |s| (set(s), s.rnd1))
+}
+
+fn final_command(card: &mut Card, data: &[u8], fresh: &[u8], out: &mut [u8], fault: Fault) -> Answer {
+    let mut work = Work::default();
+    let (fa_key, rnd1) = final_keys(card);
+    let keys = work.expand(&fa_key);
+    let diversified = work.encipher(&fa_key, &keys, &card.given.div_data);
+    let keys = work.expand(&diversified);
+    let mut text = aes::cbc_decipher([0; 16], data, |block| work.decipher(&diversified, &keys, block));
+    let unpadded = padding::unpadded_length(&text);
+    text.resize(240, 0);
+    let keys_hash = if fault == Fault::HashSkippedAfterBadPadding && unpadded.is_none() {
+        [0; 16]
+    } else {
+        *work.hash(&[&rnd1, &text[2..18]].concat()).first_chunk().unwrap()
+    };
+    let mode = held_mode(card, u16::from_be_bytes([text[0], text[1]]), &mut work);
+    let why = verdict(card, data.len(), unpadded.map(|length| &text[..length]), &keys_hash, mode);
+    let (key, plain) = match mode {
+        Some(mode) if why == ACCEPTED => (keys_hash, reply(card, mode, fault)),
+        _ => (card.given.shill_key, fresh[..16 * card.reply_size].to_vec()),
+    };
+    let keys = work.expand(&key);
+    let answer = aes::cbc_encipher([0; 16], &plain, |block| work.encipher(&key, &keys, block));
+    if fault != Fault::OldSessionStays {
+        card.session = None;
+    }
+    Answer::given(&answer, out, 0, work, why)
+}
+
+/// Compares with all sixteen mode slots.
+fn held_mode(card: &Card, id: u16, work: &mut Work) -> Option<Mode> {
+    let mut found = None;
+    for slot in 0..16 {
+        let mode = card.given.modes.get(slot);
+        if work.compare(Some(id), mode.map(|m| m.id)) {
+            found = mode.copied();
+        }
+    }
+    found
+}
+
+/// Record and DivData, padded.
+fn reply(card: &Card, mode: Mode, fault: Fault) -> Vec<u8> {
+    let record = &card.given.area[mode.start..mode.start + mode.len];
+    padding::padded(&[record, &card.given.div_data].concat(), fault)
+}
+
+const ACCEPTED: &str = "final accepted";
+
+/// Accepted exactly when all of these hold. Where one alone fails, it is named.
+fn verdict(card: &Card, lc: usize, text: Option<&[u8]>, keys_hash: &Block, mode: Option<Mode>) -> &'static str {
+    let rules = [
+        (card.session.is_some(), "final refused: no session alone"),
+        (lc % 16 == 0, "final refused: Lc alone"),
+        (text.is_some(), "final refused: padding alone"),
+        (text.is_none_or(|t| t.len() >= 34), "final refused: text under 34 alone"),
+        (text.is_none_or(|t| t.ends_with(keys_hash)), "final refused: KeysHash alone"),
+        (mode.is_some(), "final refused: mode alone"),
+    ];
+    let mut broken = rules.iter().filter(|(holds, _)| !holds).map(|(_, why)| *why);
+    match (broken.next(), broken.next()) {
+        (None, _) => ACCEPTED,
+        (Some(why), None) => why,
+        _ => "final refused: several",
+    }
+}

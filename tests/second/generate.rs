@@ -1,0 +1,87 @@
+//! Seeded random calls. Random bytes alone reach no depth: each case is first made valid, then some are damaged.
+
+mod command;
+mod load;
+mod reader;
+mod session;
+
+use crate::card::{self, Card};
+use crate::fault::Fault;
+use crate::line::Line;
+use crate::random::Random;
+
+/// Lines that belong together: a load with its calls, one call of the reader, or a whole session.
+pub struct Case {
+    pub lines: Vec<Line>,
+    /// The record with which a session has to end, by the session promise.
+    pub promised: Option<Vec<u8>>,
+    /// Whether the lines are a session, or the part of one up to where it ended.
+    pub session: bool,
+}
+
+pub fn case(random: &mut Random) -> Case {
+    let lines = match random.below(100) {
+        0..16 => vec![Line::Load(load::any(random))],
+        16..36 => card_list(random),
+        36..46 => vec![reader::list(random)],
+        46..58 => vec![reader::open(random)],
+        58..70 => vec![reader::seal(random)],
+        70..85 => vec![reader::accept(random)],
+        _ => return session::any(random),
+    };
+    Case { lines, promised: None, session: false }
+}
+
+/// Runs the command on the generator's own card, so that the next one can be made for the card as it is then.
+fn follow(card: &mut Card, call: &Line) -> Vec<u8> {
+    let Line::Call { command, fresh, out } = call else { return Vec::new() };
+    let mut buffer = vec![0; *out];
+    let answer = card::command(card, command, fresh, &mut buffer, Fault::None);
+    buffer.truncate(answer.length);
+    buffer
+}
+
+/// A load and up to sixteen commands.
+fn card_list(random: &mut Random) -> Vec<Line> {
+    let given = load::good(random);
+    let mut lines = vec![Line::Load(given.clone())];
+    if let Ok(mut card) = card::load(&given) {
+        for _ in 0..random.between(1, 16) {
+            let call = command::call(random, &card, &lines);
+            follow(&mut card, &call);
+            lines.push(call);
+        }
+    }
+    lines
+}
+
+/// An identifier; small ones and 0 come often, so that sets, modes and empty slots meet.
+fn id(random: &mut Random) -> u16 {
+    match random.below(10) {
+        0..5 => random.below(20) as u16,
+        5 => random.pick(&[0, 1, 0x0100, 0x0402, 0x8000, 0xffff]),
+        _ => random.next() as u16,
+    }
+}
+
+fn distinct_ids(random: &mut Random, count: usize) -> Vec<u16> {
+    let mut ids = Vec::new();
+    while ids.len() < count {
+        let next = id(random);
+        if !ids.contains(&next) {
+            ids.push(next);
+        }
+    }
+    ids
+}
+
+/// A buffer size: mostly enough, often one too short, sometimes anything.
+fn size(random: &mut Random, least: usize) -> usize {
+    match random.below(10) {
+        0..4 => least,
+        4 => least.saturating_sub(1),
+        5 => least + 1,
+        6 => random.between(0, 300),
+        _ => least + random.below(45),
+    }
+}

@@ -1,0 +1,194 @@
+//! Commands for a card as it is: initial, final and broken ones, with fresh bytes and an output size.
+
+use super::{id, size};
+use crate::card::{Card, final_keys};
+use crate::fault::Fault;
+use crate::line::Line;
+use crate::padding::padded;
+use crate::random::Random;
+use crate::reader::{Sealing, final_data, framed, keys_hash, str2};
+
+/// Any call. An open session mostly meets a final command, so that lists get deep. Some commands of earlier calls come again.
+pub fn call(random: &mut Random, card: &Card, earlier: &[Line]) -> Line {
+    let again = earlier.get(random.below(2 * earlier.len() + 1));
+    let mut command = match (card.session.is_some(), random.below(10), again) {
+        (_, 0, Some(Line::Call { command, .. })) => command.clone(),
+        (_, 0, _) => strange(random),
+        (true, 1..8, _) | (false, 1..4, _) => final_command(random, card),
+        _ => initial(random, card),
+    };
+    if random.percent(8) {
+        damage(random, &mut command);
+    }
+    Line::Call { command, fresh: fresh(random), out: size(random, 256) }
+}
+
+/// 253 bytes whose last 203 are not zero.
+pub fn good_fresh(random: &mut Random) -> Vec<u8> {
+    let mut fresh = random.bytes(253);
+    fresh[50..].iter_mut().for_each(|b| *b = (*b).max(1));
+    fresh
+}
+
+fn fresh(random: &mut Random) -> Vec<u8> {
+    let mut fresh = good_fresh(random);
+    match random.below(40) {
+        0 => fresh.truncate(random.edge(&[0, 49, 50, 252], 0, 252)),
+        1 => fresh.resize(random.edge(&[254, 300], 254, 300), 1),
+        2 | 3 => fresh[random.edge(&[50, 252], 50, 252)] = 0,
+        // Zeros in F are as good as any other byte.
+        4 => fresh[random.edge(&[0, 15, 16, 49], 0, 49)] = 0,
+        5 => fresh[..50].fill(0),
+        _ => {}
+    }
+    fresh
+}
+
+/// One bit flipped, bytes cut or put on anywhere.
+fn damage(random: &mut Random, command: &mut Vec<u8>) {
+    match random.below(4) {
+        0 => command.truncate(random.between(0, command.len())),
+        1 => command.extend(random.bytes(2)),
+        2 => command.insert(random.between(0, command.len()), random.byte()),
+        _ => random.flip(command),
+    }
+}
+
+/// Frames that are no operation: short ones, other CLA, INS, P1 P2, any Lc with a wrong or absent Le.
+fn strange(random: &mut Random) -> Vec<u8> {
+    let ins = random.pick(&[0x86, 0x87]);
+    let lc = random.edge(&[0, 1, 2, 15, 16, 254, 255], 0, 255);
+    let mut command = framed(ins, &random.bytes(lc));
+    match random.below(8) {
+        0 => command.truncate(random.between(0, 7)),
+        1 => command[0] = random.byte(),
+        2 => command[1] = random.pick(&[0x00, 0x06, 0x85, 0x88, 0x89, 0xff]),
+        3 => command[random.pick(&[2, 3])] = random.byte(),
+        4 => command[4] = random.byte(),
+        5 => command.truncate(lc + 5),
+        6 => command[lc + 5] = random.byte(),
+        _ => {}
+    }
+    command
+}
+
+/// A list of up to 20 KeySetIDs, sometimes of as many as there is room for, held and unheld.
+fn initial(random: &mut Random, card: &Card) -> Vec<u8> {
+    let count = random.edge(&[1, 2, 5], 0, 20);
+    let count = if random.percent(4) { random.between(21, 63) } else { count };
+    let held = random.pick(&[0, 20, 50, 100]);
+    let ids = (0..count).map(|_| if random.percent(held) { random.pick(&card.given.sets).id } else { id(random) });
+    let mut entries: Vec<Vec<u8>> = ids.map(|id| id.to_be_bytes().to_vec()).collect();
+    if count > 0 && random.percent(4) {
+        entries[random.below(count)].resize(random.pick(&[0, 1, 3, 4]), 0);
+    }
+    let mut data = ber(random, &entries);
+    if random.percent(25) {
+        spoil_list(random, &mut data);
+    }
+    data.truncate(255);
+    framed(0x87, &data)
+}
+
+/// A length in one of these forms: 0 for the short one, 1 for 81 and one byte, 2 for 82 and two, which the card does not take.
+fn ber_length(random: &mut Random, length: usize, forms: &[u8]) -> Vec<u8> {
+    match random.pick(forms) {
+        2 => vec![0x82, 0, length as u8],
+        form if form == 1 || length > 127 => vec![0x81, length as u8],
+        _ => vec![length as u8],
+    }
+}
+
+fn ber(random: &mut Random, entries: &[Vec<u8>]) -> Vec<u8> {
+    let forms: &[u8] = random.pick(&[&[0], &[0], &[0], &[0, 0, 0, 1], &[0, 1], &[1], &[0, 0, 0, 0, 0, 2]]);
+    let mut content = Vec::new();
+    for entry in entries {
+        content.push(0x04);
+        content.extend(ber_length(random, entry.len(), forms));
+        content.extend(entry);
+    }
+    [vec![0x30], ber_length(random, content.len(), forms), content].concat()
+}
+
+/// Wrong tags, lengths and forms, in the list or in one of its entries; bytes left over or missing.
+fn spoil_list(random: &mut Random, data: &mut Vec<u8>) {
+    let entry = 2 + 4 * random.below(data.len().div_ceil(4));
+    let wrong_length = random.pick(&[0, 1, 3, 4, 0x7f, 0x80, 0x82, 0x84, 0xff]);
+    match random.below(9) {
+        0 => data[0] = random.pick(&[0x31, 0x04, 0x10, 0x00, 0xb0]),
+        1 => data[1] = wrong_length,
+        2 => data[1] = data[1].wrapping_add(random.pick(&[1, 4, 0xff, 0xfc])),
+        3 => change(data, entry, random.pick(&[0x05, 0x30, 0x84, 0x00])),
+        4 => change(data, entry + 1, wrong_length),
+        5 => data.extend(random.some_bytes(1, 4)),
+        6 => data.truncate(random.between(1, data.len())),
+        7 => *data = [&[0x30, 3, 0x04, 1, random.byte()], &data[2..]].concat(),
+        _ => random.flip(data),
+    }
+}
+
+fn change(data: &mut [u8], at: usize, to: u8) {
+    if let Some(byte) = data.get_mut(at) {
+        *byte = to;
+    }
+}
+
+/// A final command for the card's session, or for none; right in everything or wrong in something.
+fn final_command(random: &mut Random, card: &Card) -> Vec<u8> {
+    let (fa_key, rnd1) = final_keys(card);
+    let mode = if random.percent(92) { random.pick(&card.given.modes).id } else { id(random) };
+    let of = Sealing { fa_key, div_data: card.given.div_data, rnd1, rnd2: random.block(), mode };
+    let text = final_text(random, of);
+    let mut data = final_data(&fa_key, &card.given.div_data, &text);
+    match random.below(20) {
+        0 => data.extend(random.some_bytes(1, 15)),
+        1 => random.flip(&mut data),
+        2 => {
+            let lc = random.edge(&[1, 15, 16, 17, 48, 240, 255], 1, 255);
+            data = random.bytes(lc);
+        }
+        _ => {}
+    }
+    framed(0x86, &data)
+}
+
+/// STR2 with its padding, whole blocks; sometimes damaged before it is enciphered.
+fn final_text(random: &mut Random, of: Sealing) -> Vec<u8> {
+    let payload = random.edge(&[0, 0, 13, 14, 30, 205], 0, 205);
+    let mut text = str2(&of, &random.bytes(payload));
+    match random.below(24) {
+        0 => random.flip(&mut text[18 + payload..]),
+        1 => random.flip(&mut text),
+        2 => text.truncate(random.edge(&[0, 16, 17, 18, 32, 33], 0, 33)),
+        3 => text = just_too_short(random, of),
+        4 | 5 => return badly_padded(random, text),
+        _ => {}
+    }
+    padded(&text, Fault::None)
+}
+
+/// 33 bytes that end in their own KeysHash: its first byte is RND2's last, so that only the length is wrong.
+fn just_too_short(random: &mut Random, mut of: Sealing) -> Vec<u8> {
+    for _ in 0..2000 {
+        of.rnd2 = random.block();
+        if keys_hash(&of.rnd1, &of.rnd2)[0] == of.rnd2[15] {
+            break;
+        }
+    }
+    let mut text = str2(&of, &[]);
+    text.remove(17);
+    text
+}
+
+/// Whole blocks whose last nonzero byte is not 0x80, or does not stand in the last one.
+fn badly_padded(random: &mut Random, text: Vec<u8>) -> Vec<u8> {
+    let mut padded = padded(&text, Fault::None);
+    match random.below(5) {
+        0 => padded[text.len()] = random.byte(),
+        1 => *padded.last_mut().unwrap() = random.byte(),
+        2 if padded.len() < 240 => padded.extend([0; 16]),
+        3 => padded.fill(0),
+        _ => padded[text.len()] = 0,
+    }
+    padded
+}

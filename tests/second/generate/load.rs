@@ -1,0 +1,83 @@
+//! Loads, right and wrong.
+
+use super::distinct_ids;
+use crate::card::{Given, KeySet, Mode};
+use crate::random::Random;
+
+/// A load that is accepted.
+pub fn good(random: &mut Random) -> Given {
+    let shill_handle = random.byte();
+    let set_count = random.edge(&[1, 2, 8], 1, 8);
+    let mode_count = random.edge(&[1, 2, 16], 1, 16);
+    let sets = sets(random, set_count, shill_handle);
+    // One B for all records: from 1 to 15 bytes, from 16 to 31, and so on; 64 alone.
+    let (least, longest) = random.pick(&[(1, 15), (16, 31), (32, 47), (48, 63), (64, 64)]);
+    let area = random.edge(&[longest, 1023, 1024], longest, 300);
+    let modes = distinct_ids(random, mode_count).into_iter().map(|id| {
+        let len = random.edge(&[least, longest], least, longest);
+        Mode { id, start: random.edge(&[0, area - len], 0, area - len), len }
+    });
+    let modes = modes.collect();
+    let [div_data, shill_key] = [random.block(), random.block()];
+    Given { sets, modes, area: random.bytes(area), div_data, shill_key, shill_handle }
+}
+
+/// So many key sets, none with the shill handle.
+fn sets(random: &mut Random, count: usize, shill_handle: u8) -> Vec<KeySet> {
+    let ids = distinct_ids(random, count).into_iter();
+    ids.map(|id| KeySet { id, handle: shill_handle.wrapping_add(random.between(1, 255) as u8), fa_key: random.block() }).collect()
+}
+
+/// A load that may be wrong in one way or in several.
+pub fn any(random: &mut Random) -> Given {
+    let mut given = good(random);
+    for _ in 0..random.pick(&[0, 1, 1, 1, 1, 2, 3]) {
+        match random.below(9) {
+            0 => {
+                let count = random.edge(&[0, 8, 9], 0, 20);
+                given.sets = sets(random, count, given.shill_handle);
+            }
+            1 => repeat(random, &mut given.sets, |to, from| to.id = from.id),
+            2 => repeat(random, &mut given.sets, |to, from| to.handle = from.handle),
+            3 => change(random, &mut given.sets, |_, set| set.handle = given.shill_handle),
+            4 => mode_count(random, &mut given.modes),
+            5 => repeat(random, &mut given.modes, |to, from| to.id = from.id),
+            6 => change(random, &mut given.modes, |random, mode| mode.len = random.edge(&[0, 1, 15, 16, 63, 64, 65, usize::MAX], 0, 70)),
+            7 => {
+                let area = random.edge(&[0, 1, 1024, 1025], 0, 1030);
+                given.area = random.bytes(area);
+            }
+            _ => change(random, &mut given.modes, |random, mode| mode.start = outer_start(random, given.area.len(), mode.len)),
+        }
+    }
+    given
+}
+
+/// Any number of modes, each with the record of the first.
+fn mode_count(random: &mut Random, modes: &mut Vec<Mode>) {
+    let count = random.edge(&[0, 16, 17], 0, 20);
+    let (start, len) = modes.first().map_or((0, 1), |m| (m.start, m.len));
+    *modes = distinct_ids(random, count).into_iter().map(|id| Mode { id, start, len }).collect();
+}
+
+/// A start about the last possible one, or one whose end is beyond all numbers.
+fn outer_start(random: &mut Random, area: usize, len: usize) -> usize {
+    let last = area.wrapping_sub(len);
+    let end = usize::MAX - len;
+    random.pick(&[last, last.wrapping_add(1), area, area + 1, end, end.wrapping_add(1), usize::MAX, usize::MAX - 1])
+}
+
+fn change<T>(random: &mut Random, items: &mut [T], how: impl Fn(&mut Random, &mut T)) {
+    if !items.is_empty() {
+        let at = random.below(items.len());
+        how(random, &mut items[at]);
+    }
+}
+
+/// Makes one item like another in one respect; it may meet itself.
+fn repeat<T: Copy>(random: &mut Random, items: &mut [T], alike: impl Fn(&mut T, &T)) {
+    if !items.is_empty() {
+        let from = random.pick(items);
+        change(random, items, |_, to| alike(to, &from));
+    }
+}

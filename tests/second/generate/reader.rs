@@ -1,0 +1,102 @@
+//! Calls of the reader: List, Open, Seal, Accept.
+
+use super::{command, distinct_ids, id, size};
+use crate::aes::Block;
+use crate::fault::Fault;
+use crate::line::Line;
+use crate::padding::padded;
+use crate::random::Random;
+use crate::reader::{Sealing, enciphered};
+
+pub fn list(random: &mut Random) -> Line {
+    let count = random.edge(&[1, 2, 16], 0, 20);
+    let mut ids = distinct_ids(random, count);
+    if count > 1 && random.percent(20) {
+        ids[random.below(count)] = random.pick(&ids.clone());
+    }
+    Line::List { out: size(random, 4 * count + 8), ids }
+}
+
+/// The block of a card that holds this set.
+pub fn card_block(random: &mut Random, id: u16, div_data: &Block, rnd1: &Block) -> Vec<u8> {
+    let pad = &command::good_fresh(random)[50..];
+    [&[0, 2], pad, &[0], &id.to_be_bytes(), div_data, rnd1, rnd1].concat()
+}
+
+/// What a decryption may give for an entry: a good block, a damaged one, a stranger's, or random bytes.
+fn block(random: &mut Random, entry: u16) -> Vec<u8> {
+    let owner = if random.percent(15) { id(random) } else { entry };
+    let [div_data, rnd1] = [random.block(), random.block()];
+    let mut block = card_block(random, owner, &div_data, &rnd1);
+    match random.below(12) {
+        0 => block[random.pick(&[0, 1, 205])] = random.pick(&[0, 1, 2, 0xff]),
+        1 => block[random.edge(&[2, 204], 2, 204)] = 0,
+        2 => random.flip(&mut block[206..208]),
+        3 => random.flip(&mut block[224..]),
+        4 => random.flip(&mut block),
+        5 => block[206..].copy_from_slice(&random.bytes(50)),
+        6 | 7 => {}
+        _ => random.fill(&mut block),
+    }
+    block
+}
+
+pub fn open(random: &mut Random) -> Line {
+    let count = random.edge(&[1, 2, 3, 16], 0, 20);
+    let ids: Vec<u16> = (0..count).map(|_| id(random)).collect();
+    let mut blocks: Vec<u8> = ids.iter().flat_map(|id| block(random, *id)).collect();
+    let off = random.pick(&[1, 255, 256]);
+    match random.below(20) {
+        0 => blocks.truncate(blocks.len().saturating_sub(off)),
+        1 => blocks.extend(random.bytes(off)),
+        _ => {}
+    }
+    Line::Open { ids, blocks }
+}
+
+pub fn sealing(random: &mut Random) -> Sealing {
+    let [fa_key, div_data, rnd1, rnd2] = [random.block(), random.block(), random.block(), random.block()];
+    Sealing { fa_key, div_data, rnd1, rnd2, mode: id(random) }
+}
+
+pub fn payload(random: &mut Random) -> Vec<u8> {
+    let length = random.edge(&[0, 13, 14, 29, 30, 205, 206], 0, 210);
+    random.bytes(length)
+}
+
+pub fn seal(random: &mut Random) -> Line {
+    let payload = payload(random);
+    let lc = (34 + payload.len()) / 16 * 16 + 16;
+    Line::Seal { of: sealing(random), payload, out: size(random, lc + 6) }
+}
+
+/// A body and DivData, padded; sometimes other bytes before they are enciphered.
+fn response_text(random: &mut Random, div_data: &Block) -> Vec<u8> {
+    let body = random.edge(&[0, 1, 15, 16, 63, 64, 65, 79], 0, 79);
+    let mut text = [&random.bytes(body)[..], div_data].concat();
+    if random.percent(10) {
+        random.flip(&mut text[body..]);
+    }
+    let mut padded = padded(&text, Fault::None);
+    match random.below(12) {
+        0 => padded[text.len()] = random.byte(),
+        1 => *padded.last_mut().unwrap() = random.byte(),
+        2 => padded.extend([0; 16]),
+        3 => padded.fill(random.pick(&[0, 0x80])),
+        _ => {}
+    }
+    padded
+}
+
+pub fn accept(random: &mut Random) -> Line {
+    let [keys_hash, div_data] = [random.block(), random.block()];
+    let mut response = enciphered(&keys_hash, &response_text(random, &div_data));
+    match random.below(12) {
+        0 => random.flip(&mut response),
+        1 => response.truncate(random.between(0, response.len())),
+        2 => response.resize(random.edge(&[0, 16, 31, 32, 33, 96, 97, 112], 0, 112), 0x5a),
+        _ => {}
+    }
+    let work = size(random, response.len());
+    Line::Accept { keys_hash, div_data, work: random.bytes(work), response }
+}

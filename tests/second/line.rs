@@ -1,0 +1,60 @@
+//! A call with all its arguments: one line of a transcript.
+
+use crate::aes::Block;
+use crate::card::{Given, KeySet, Mode};
+use crate::reader::Sealing;
+
+#[derive(Clone, PartialEq)]
+pub enum Line {
+    /// Starts a new card.
+    Load(Given),
+    /// A command to the card as the call before left it.
+    Call { command: Vec<u8>, fresh: Vec<u8>, out: usize },
+    List { ids: Vec<u16>, out: usize },
+    Open { ids: Vec<u16>, blocks: Vec<u8> },
+    Seal { of: Sealing, payload: Vec<u8>, out: usize },
+    Accept { keys_hash: Block, div_data: Block, response: Vec<u8>, work: Vec<u8> },
+}
+
+/// One argument of a line, by the way in which it can be made simpler.
+pub enum Field<'a> {
+    Bytes(&'a mut Vec<u8>),
+    Command(&'a mut Vec<u8>),
+    Fresh(&'a mut Vec<u8>),
+    Block(&'a mut Block),
+    Ids(&'a mut Vec<u16>),
+    Sets(&'a mut Vec<KeySet>),
+    Modes(&'a mut Vec<Mode>),
+    Size(&'a mut usize),
+    Id(&'a mut u16),
+    Handle(&'a mut u8),
+}
+
+impl Line {
+    pub fn fields(&mut self) -> Vec<Field<'_>> {
+        use Field::*;
+        match self {
+            Line::Load(Given { sets, modes, area, div_data, shill_key, shill_handle }) => {
+                vec![Sets(sets), Modes(modes), Bytes(area), Block(div_data), Block(shill_key), Handle(shill_handle)]
+            }
+            Line::Call { command, fresh, out } => vec![Command(command), Fresh(fresh), Size(out)],
+            Line::List { ids, out } => vec![Ids(ids), Size(out)],
+            Line::Open { ids, blocks } => vec![Ids(ids), Bytes(blocks)],
+            Line::Seal { of: Sealing { fa_key, div_data, rnd1, rnd2, mode }, payload, out } => {
+                vec![Bytes(payload), Block(fa_key), Block(div_data), Block(rnd1), Block(rnd2), Id(mode), Size(out)]
+            }
+            Line::Accept { keys_hash, div_data, response, work } => {
+                vec![Bytes(response), Block(keys_hash), Block(div_data), Bytes(work)]
+            }
+        }
+    }
+
+    /// The size of the buffer lent for writing.
+    pub fn lent(&self) -> usize {
+        match self {
+            Line::Load(_) | Line::Open { .. } => 0,
+            Line::Call { out, .. } | Line::List { out, .. } | Line::Seal { out, .. } => *out,
+            Line::Accept { work, .. } => work.len(),
+        }
+    }
+}

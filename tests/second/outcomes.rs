@@ -1,0 +1,97 @@
+//! How often each outcome that document 01 names came up, so that the generator cannot become weak unseen.
+
+use std::collections::BTreeMap;
+
+use crate::side::Reply;
+
+/// The outcomes that have to come up: for each kind of call and number or status, the rules that decide.
+const REQUIRED: [(&str, &[&str]); 36] = [
+    ("load 0", &["loaded"]),
+    ("load 1", &["no key set", "over 8 key sets"]),
+    ("load 2", &["repeated KeySetID"]),
+    ("load 3", &["a set with the shill handle"]),
+    ("load 4", &["no mode", "over 16 modes"]),
+    ("load 5", &["repeated OpModeID"]),
+    ("load 6", &["area over 1,024", "a record empty", "a record over 64", "a record outside the area"]),
+    ("load 7", &["unequal B"]),
+    ("call 8", &["fresh bytes not 253"]),
+    ("call 9", &["a zero pad byte"]),
+    ("call 10", &["output below 256"]),
+    ("call 6700", &["under four bytes", "no Lc", "Lc 0", "total not Lc + 6", "Le not 00"]),
+    ("call 6e00", &["CLA"]),
+    ("call 6d00", &["INS"]),
+    ("call 6a86", &["P1 P2"]),
+    ("call 9000, 256 bytes", &["initial accepted", "initial refused: malformed", "initial refused: no match"]),
+    ("call 9000, 32 bytes", FINAL),
+    ("call 9000, 48 bytes", FINAL),
+    ("call 9000, 64 bytes", FINAL),
+    ("call 9000, 80 bytes", FINAL),
+    ("call 9000, 96 bytes", FINAL),
+    ("list 0", &["listed"]),
+    ("list 11", &["no KeySetID", "over 16 KeySetIDs"]),
+    ("list 12", &["repeated KeySetID"]),
+    ("list 13", &["output too short"]),
+    ("open 0", &["opened"]),
+    ("open 14", &["no KeySetID", "over 16 KeySetIDs", "a total that is not 256k"]),
+    ("open 15", &["no block opens"]),
+    ("seal 0", &["sealed"]),
+    ("seal 16", &["payload over 205"]),
+    ("seal 17", &["output below Lc + 6"]),
+    ("accept 0", &["accepted"]),
+    ("accept 18", &["length not 32, 48, 64, 80 or 96"]),
+    ("accept 19", &["work buffer shorter than the response"]),
+    ("accept 20", &["padding", "body empty alone", "body over 64 alone", "DivData alone"]),
+    ("session", &["ended as promised", "without promise"]),
+];
+
+/// Of a final command, for each B. `alone`: all other conditions held.
+const FINAL: &[&str] = &[
+    "final accepted",
+    "final refused: no session alone",
+    "final refused: Lc alone",
+    "final refused: padding alone",
+    "final refused: text under 34 alone",
+    "final refused: KeysHash alone",
+    "final refused: mode alone",
+    "final refused: several",
+];
+
+#[derive(Default)]
+pub struct Outcomes(BTreeMap<(String, &'static str), usize>);
+
+impl Outcomes {
+    pub fn count(&mut self, kind: String, why: &'static str) {
+        *self.0.entry((kind, why)).or_default() += 1;
+    }
+
+    /// A line for each kind.
+    pub fn print(&self) {
+        let mut kinds: Vec<&String> = self.0.keys().map(|(kind, _)| kind).collect();
+        kinds.dedup();
+        for kind in kinds {
+            let of_kind = self.0.iter().filter(|((k, _), _)| k == kind);
+            println!("  {kind}: {}", of_kind.map(|((_, why), count)| format!("{count} {why}")).collect::<Vec<_>>().join("; "));
+        }
+    }
+
+    /// The required outcomes that never came up.
+    pub fn missing(&self) -> Vec<String> {
+        let required = REQUIRED.iter().flat_map(|(kind, rules)| rules.iter().map(|why| (kind.to_string(), *why)));
+        required.filter(|outcome| !self.0.contains_key(outcome)).map(|(kind, why)| format!("{kind}: {why}")).collect()
+    }
+}
+
+/// The kind of call with its number or status, and the answer's length where there is one.
+pub fn kind(reply: &Reply) -> String {
+    match reply {
+        Reply::Load { number, .. } => format!("load {number}"),
+        Reply::Call { number: 0, status, length: 0, .. } => format!("call {status:04x}"),
+        Reply::Call { number: 0, status, length, .. } => format!("call {status:04x}, {length} bytes"),
+        Reply::Call { number, .. } => format!("call {number}"),
+        Reply::List { number, .. } => format!("list {number}"),
+        Reply::Open { number, .. } => format!("open {number}"),
+        Reply::Seal { number, .. } => format!("seal {number}"),
+        Reply::Accept { number, .. } => format!("accept {number}"),
+        Reply::NoCard => "no card".to_string(),
+    }
+}

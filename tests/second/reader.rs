@@ -1,0 +1,121 @@
+//! The reader of document 01.
+
+use crate::aes::{self, Block};
+use crate::card::{Decline, decline_if, has_repeated};
+use crate::fault::Fault;
+use crate::padding;
+use crate::sha256;
+
+/// A command: CLA 00, INS, P1 P2 0000, Lc, the data, Le 00.
+pub fn framed(ins: u8, data: &[u8]) -> Vec<u8> {
+    [&[0, ins, 0, 0, data.len() as u8], data, &[0]].concat()
+}
+
+/// SEQUENCE OF OCTET STRING of size 2, short forms only.
+pub fn id_list(ids: &[u16]) -> Vec<u8> {
+    let entries = ids.iter().flat_map(|id| [0x04, 2, id.to_be_bytes()[0], id.to_be_bytes()[1]]);
+    [0x30, 4 * ids.len() as u8].into_iter().chain(entries).collect()
+}
+
+fn count_fault(ids: &[u16], number: u8) -> Result<(), Decline> {
+    decline_if(ids.is_empty(), number, "no KeySetID")?;
+    decline_if(ids.len() > 16, number, "over 16 KeySetIDs")
+}
+
+pub fn list(ids: &[u16], out: &mut [u8]) -> Result<usize, Decline> {
+    count_fault(ids, 11)?;
+    decline_if(has_repeated(ids.iter()), 12, "repeated KeySetID")?;
+    let command = framed(0x87, &id_list(ids));
+    decline_if(out.len() < command.len(), 13, "output too short")?;
+    out[..command.len()].copy_from_slice(&command);
+    Ok(command.len())
+}
+
+#[derive(Default)]
+pub struct Opened {
+    pub place: usize,
+    pub id: u16,
+    pub div_data: Block,
+    pub rnd1: Block,
+}
+
+/// 00 02, 203 nonzero bytes, 00, and 50 bytes whose KeySetID is that entry's and whose RND1 copies agree.
+fn opens(place: usize, id: u16, block: &[u8; 256]) -> Option<Opened> {
+    let (pad, last) = (&block[2..205], &block[206..]);
+    let (rnd1, copy) = (&last[18..34], &last[34..]);
+    let framed = block[..2] == [0, 2] && !pad.contains(&0) && block[205] == 0;
+    if !framed || last[..2] != id.to_be_bytes() || rnd1 != copy {
+        return None;
+    }
+    Some(Opened { place, id, div_data: last[2..18].try_into().unwrap(), rnd1: rnd1.try_into().unwrap() })
+}
+
+/// Every block is examined; the first to open wins.
+pub fn open(ids: &[u16], blocks: &[u8]) -> Result<Opened, Decline> {
+    count_fault(ids, 14)?;
+    decline_if(blocks.len() != 256 * ids.len(), 14, "a total that is not 256k")?;
+    let examined = ids.iter().zip(blocks.as_chunks().0).enumerate().map(|(place, (id, block))| opens(place, *id, block));
+    let examined: Vec<_> = examined.collect();
+    examined.into_iter().flatten().next().ok_or(Decline { number: 15, why: "no block opens" })
+}
+
+/// What Seal takes beside the payload.
+#[derive(Clone, PartialEq)]
+pub struct Sealing {
+    pub fa_key: Block,
+    pub div_data: Block,
+    pub rnd1: Block,
+    pub rnd2: Block,
+    pub mode: u16,
+}
+
+pub fn keys_hash(rnd1: &Block, rnd2: &Block) -> Block {
+    *sha256::hash(&[*rnd1, *rnd2].concat()).first_chunk().unwrap()
+}
+
+/// OpModeID, RND2, payload, KeysHash.
+pub fn str2(of: &Sealing, payload: &[u8]) -> Vec<u8> {
+    [&of.mode.to_be_bytes()[..], &of.rnd2, payload, &keys_hash(&of.rnd1, &of.rnd2)].concat()
+}
+
+pub fn enciphered(key: &Block, text: &[u8]) -> Vec<u8> {
+    let keys = aes::expand(key);
+    aes::cbc_encipher([0; 16], text, |block| aes::encipher(&keys, block))
+}
+
+/// A final command with this text, whole blocks, under the diversified key.
+pub fn final_data(fa_key: &Block, div_data: &Block, text: &[u8]) -> Vec<u8> {
+    enciphered(&aes::encipher(&aes::expand(fa_key), div_data), text)
+}
+
+pub fn seal(of: &Sealing, payload: &[u8], out: &mut [u8], fault: Fault) -> Result<(usize, Block), Decline> {
+    decline_if(payload.len() > 205, 16, "payload over 205")?;
+    let text = padding::padded(&str2(of, payload), fault);
+    decline_if(out.len() < text.len() + 6, 17, "output below Lc + 6")?;
+    let command = framed(0x86, &final_data(&of.fa_key, &of.div_data, &text));
+    out[..command.len()].copy_from_slice(&command);
+    Ok((command.len(), keys_hash(&of.rnd1, &of.rnd2)))
+}
+
+/// Deciphers into the work buffer; gives the length of the part in front of DivData.
+pub fn accept(keys_hash: &Block, div_data: &Block, response: &[u8], work: &mut [u8]) -> Result<usize, Decline> {
+    decline_if(![32, 48, 64, 80, 96].contains(&response.len()), 18, "length not 32, 48, 64, 80 or 96")?;
+    decline_if(work.len() < response.len(), 19, "work buffer shorter than the response")?;
+    let keys = aes::expand(keys_hash);
+    let text = aes::cbc_decipher([0; 16], response, |block| aes::decipher(&keys, block));
+    let body = authenticated(&text, div_data);
+    let shown = if body.is_ok() { text } else { vec![0; response.len()] };
+    work[..response.len()].copy_from_slice(&shown);
+    body
+}
+
+/// The length of the body. The last 16 unpadded bytes must be DivData and 1 to 64 bytes must stand before them.
+fn authenticated(text: &[u8], div_data: &Block) -> Result<usize, Decline> {
+    let length = padding::unpadded_length(text).ok_or(Decline { number: 20, why: "padding" })?;
+    let body = length.checked_sub(16).ok_or(Decline { number: 20, why: "no room for DivData" })?;
+    let right = text[body..length] == div_data[..];
+    decline_if(body == 0, 20, if right { "body empty alone" } else { "body empty and DivData" })?;
+    decline_if(body > 64, 20, if right { "body over 64 alone" } else { "body over 64 and DivData" })?;
+    decline_if(!right, 20, "DivData alone")?;
+    Ok(body)
+}

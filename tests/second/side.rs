@@ -1,0 +1,217 @@
+//! The two sides that are compared: the second implementation and the proved library, each with the card of its last load.
+
+use crate::aes::Block;
+use crate::card::{self, Card, Decline, Given, KeySet, Mode, Session};
+use crate::fault::Fault;
+use crate::line::Line;
+use crate::plaid;
+use crate::reader::{self, Sealing};
+use crate::work::Work;
+
+/// A card with every field of the library's struct.
+#[derive(Clone)]
+pub struct Image(pub plaid::Card);
+
+/// What a call hands back, every field of it.
+#[derive(Clone, PartialEq)]
+pub enum Reply {
+    Load { number: u8, card: Image, lists_kept: bool },
+    Call { number: u8, status: u16, work: Work, length: usize, handle: u8, card: Image },
+    List { number: u8, length: usize },
+    Open { number: u8, place: usize, id: u16, div_data: Block, rnd1: Block },
+    Seal { number: u8, length: usize, keys_hash: Block },
+    Accept { number: u8, length: usize },
+    /// A command without a loaded card before it.
+    NoCard,
+}
+
+impl Reply {
+    pub fn card(&self) -> Option<&Image> {
+        match self {
+            Reply::Load { card, .. } | Reply::Call { card, .. } => Some(card),
+            _ => None,
+        }
+    }
+}
+
+pub trait Side {
+    /// Runs one line with this buffer lent for writing.
+    fn run(&mut self, line: &Line, lent: &mut [u8]) -> Reply;
+}
+
+impl PartialEq for Image {
+    fn eq(&self, other: &Image) -> bool {
+        let (a, b) = (&self.0, &other.0);
+        let set = |s: &plaid::KeySetSlot| (s.held, s.id, s.handle, s.fa_key);
+        let mode = |m: &plaid::ModeSlot| (m.held, m.id, m.start, m.len);
+        let rest = |c: &plaid::Card| (c.div_data, c.shill_key, c.shill_handle, c.reply_size);
+        let session = |s: &plaid::Session| (s.opened, s.id, s.rnd1);
+        a.sets.each_ref().map(set) == b.sets.each_ref().map(set)
+            && a.modes.each_ref().map(mode) == b.modes.each_ref().map(mode)
+            && a.area == b.area
+            && rest(a) == rest(b)
+            && session(&a.session) == session(&b.session)
+    }
+}
+
+const NO_SESSION: plaid::Session = plaid::Session { opened: false, id: 0, rnd1: [0; 16] };
+
+/// No card: what a refused load leaves.
+const BLANK: plaid::Card = plaid::Card {
+    sets: [plaid::KeySetSlot { held: false, id: 0, handle: 0, fa_key: [0; 16] }; 8],
+    modes: [plaid::ModeSlot { held: false, id: 0, start: 0, len: 0 }; 16],
+    area: [0; 1024],
+    div_data: [0; 16],
+    shill_key: [0; 16],
+    shill_handle: 0,
+    reply_size: 0,
+    session: NO_SESSION,
+};
+
+fn image(card: &Card) -> Image {
+    let Given { sets, modes, area, div_data, shill_key, shill_handle } = &card.given;
+    let mut to = BLANK;
+    for (slot, set) in to.sets.iter_mut().zip(sets) {
+        *slot = plaid::KeySetSlot { held: true, id: set.id, handle: set.handle, fa_key: set.fa_key };
+    }
+    for (slot, mode) in to.modes.iter_mut().zip(modes) {
+        *slot = plaid::ModeSlot { held: true, id: mode.id, start: mode.start, len: mode.len };
+    }
+    to.area[..area.len()].copy_from_slice(area);
+    (to.div_data, to.shill_key, to.shill_handle) = (*div_data, *shill_key, *shill_handle);
+    to.reply_size = card.reply_size;
+    let open = |s: &Session| plaid::Session { opened: true, id: s.id, rnd1: s.rnd1 };
+    to.session = card.session.as_ref().map_or(NO_SESSION, open);
+    Image(to)
+}
+
+pub struct Second {
+    pub card: Option<Card>,
+    pub fault: Fault,
+    /// Which rule decided the last call.
+    pub why: &'static str,
+}
+
+impl Second {
+    pub fn new(fault: Fault) -> Second {
+        Second { card: None, fault, why: "" }
+    }
+
+    /// The result, or after a decline its number alone.
+    fn decided<T>(&mut self, result: Result<T, Decline>, success: &'static str) -> (u8, Option<T>) {
+        match result {
+            Ok(value) => {
+                self.why = success;
+                (0, Some(value))
+            }
+            Err(decline) => {
+                self.why = decline.why;
+                (decline.number, None)
+            }
+        }
+    }
+
+    fn load(&mut self, given: &Given) -> Reply {
+        let (number, card) = self.decided(card::load(given), "loaded");
+        self.card = card;
+        Reply::Load { number, card: self.card.as_ref().map_or(Image(BLANK), image), lists_kept: true }
+    }
+
+    fn command(&mut self, command: &[u8], fresh: &[u8], lent: &mut [u8]) -> Reply {
+        let Some(card) = &mut self.card else { return Reply::NoCard };
+        let answer = card::command(card, command, fresh, lent, self.fault);
+        let card::Answer { number, status, work, length, handle, why } = answer;
+        self.why = why;
+        Reply::Call { number, status, work, length, handle, card: image(card) }
+    }
+
+    fn open(&mut self, ids: &[u16], blocks: &[u8]) -> Reply {
+        let (number, opened) = self.decided(reader::open(ids, blocks), "opened");
+        let reader::Opened { place, id, div_data, rnd1 } = opened.unwrap_or_default();
+        Reply::Open { number, place, id, div_data, rnd1 }
+    }
+
+    fn seal(&mut self, of: &Sealing, payload: &[u8], lent: &mut [u8]) -> Reply {
+        let (number, sealed) = self.decided(reader::seal(of, payload, lent, self.fault), "sealed");
+        let (length, keys_hash) = sealed.unwrap_or_default();
+        Reply::Seal { number, length, keys_hash }
+    }
+}
+
+impl Side for Second {
+    fn run(&mut self, line: &Line, lent: &mut [u8]) -> Reply {
+        match line {
+            Line::Load(given) => self.load(given),
+            Line::Call { command, fresh, .. } => self.command(command, fresh, lent),
+            Line::List { ids, .. } => {
+                let (number, length) = self.decided(reader::list(ids, lent), "listed");
+                Reply::List { number, length: length.unwrap_or(0) }
+            }
+            Line::Open { ids, blocks } => self.open(ids, blocks),
+            Line::Seal { of, payload, .. } => self.seal(of, payload, lent),
+            Line::Accept { keys_hash, div_data, response, .. } => {
+                let (number, length) = self.decided(reader::accept(keys_hash, div_data, response, lent), "accepted");
+                Reply::Accept { number, length: length.unwrap_or(0) }
+            }
+        }
+    }
+}
+
+#[derive(Default)]
+pub struct Library {
+    card: Option<plaid::Card>,
+}
+
+impl Library {
+    fn load(&mut self, given: &Given) -> Reply {
+        let Given { sets, modes, area, div_data, shill_key, shill_handle } = given;
+        let lent_sets: Vec<_> = sets.iter().map(|s| plaid::KeySet { id: s.id, handle: s.handle, fa_key: s.fa_key }).collect();
+        let lent_modes: Vec<_> = modes.iter().map(|m| plaid::Mode { id: m.id, start: m.start, len: m.len }).collect();
+        let plaid::Loaded { number, card } = plaid::run_load(&lent_sets, &lent_modes, area, *div_data, *shill_key, *shill_handle);
+        self.card = if number == 0 { Some(card) } else { None };
+        let sets_after = lent_sets.iter().map(|s| KeySet { id: s.id, handle: s.handle, fa_key: s.fa_key });
+        let modes_after = lent_modes.iter().map(|m| Mode { id: m.id, start: m.start, len: m.len });
+        let lists_kept = sets_after.eq(sets.iter().copied()) && modes_after.eq(modes.iter().copied());
+        Reply::Load { number, card: Image(card), lists_kept }
+    }
+
+    fn command(&mut self, command: &[u8], fresh: &[u8], lent: &mut [u8]) -> Reply {
+        let Some(held) = self.card else { return Reply::NoCard };
+        let plaid::Outcome { answer, card } = plaid::run_command(held, command, fresh, lent);
+        self.card = Some(card);
+        let plaid::Answer { comparisons, decipherments, encipherments, expansions, hash_blocks, sum, .. } = answer;
+        let work = Work { comparisons, decipherments, encipherments, expansions, hash_blocks, sum };
+        let plaid::Answer { number, status, length, handle, .. } = answer;
+        Reply::Call { number, status, work, length, handle, card: Image(card) }
+    }
+
+    fn seal(of: &Sealing, payload: &[u8], lent: &mut [u8]) -> Reply {
+        let Sealing { fa_key, div_data, rnd1, rnd2, mode } = of.clone();
+        let sealing = plaid::Sealing { fa_key, div_data, rnd1, rnd2, mode };
+        let plaid::Sealed { number, length, keys_hash } = plaid::run_seal(sealing, payload, lent);
+        Reply::Seal { number, length, keys_hash }
+    }
+}
+
+impl Side for Library {
+    fn run(&mut self, line: &Line, lent: &mut [u8]) -> Reply {
+        match line {
+            Line::Load(given) => self.load(given),
+            Line::Call { command, fresh, .. } => self.command(command, fresh, lent),
+            Line::List { ids, .. } => {
+                let plaid::Written { number, length } = plaid::run_list(ids, lent);
+                Reply::List { number, length }
+            }
+            Line::Open { ids, blocks } => {
+                let plaid::Opened { number, place, id, div_data, rnd1 } = plaid::run_open(ids, blocks);
+                Reply::Open { number, place, id, div_data, rnd1 }
+            }
+            Line::Seal { of, payload, .. } => Library::seal(of, payload, lent),
+            Line::Accept { keys_hash, div_data, response, .. } => {
+                let accepting = plaid::Accepting { keys_hash: *keys_hash, div_data: *div_data };
+                let plaid::Accepted { number, length } = plaid::run_accept(accepting, response, lent);
+                Reply::Accept { number, length }
+            }
+        }
+    }
+}
