@@ -6,11 +6,11 @@ use native.Mathlib.Omega.{arith}
 use borrow.Author.Tests.{eq-eqb, ne-eqb}
 use lib.ListN.{length, getD}
 use lib.Bits.{bitXor, xor-zero-r}
-use Rattle.octets.specs.Lists.{table, getD-table, tabled}
+use Rattle.octets.specs.Lists.{tabled}
 use Rattle.sbox.specs.SubBytes.{sbox}
 use Rattle.rounds.specs.State.{cell, state}
 use Rattle.rounds.specs.Blocks.{eta}
-use Rattle.aes.specs.KeyExpansion.{word, rotWord, subWord, xorWord, power, rcon, pick, temp, words, keyExpansion, roundKey}
+use Rattle.aes.specs.KeyExpansion.{word, rotWord, subWord, xorWord, power, rcon, temp, words, keyExpansion, roundKey}
 use Rattle.aes.specs.Words.{word-first, word-next}
 
 abbrev pub four : ℕ → ℕ → ℕ → ℕ → ℕ → ℕ

@@ -10,8 +10,9 @@ use lib.ListN.{length, getD, length-append, List·getD-append}
 use lib.Seq.{getD-at}
 use lib.Bits.{bitXor}
 use Rattle.octets.specs.Bytes.{Bytes}
-use Rattle.octets.specs.Lists.{table, length-table, table-all}
+use Rattle.octets.specs.Lists.{length-table, table-all}
 use Rattle.octets.specs.Tests.{both}
+use Rattle.octets.specs.ByteLists.{append-bytes}
 use Rattle.field.specs.Linear.{xTimes-lt, xor-byte}
 use Rattle.sbox.specs.SubBytes.{sbox}
 use Rattle.sbox.specs.Rule.{sbox-lt}
@@ -113,11 +114,6 @@ module _ (nk : ℕ) (key : List ℕ) where
       ∙ ap₂ (λ (x y : List ℕ). xorWord x (temp nk (nk + m) y))
       (ap (λ (i : ℕ). getD (words nk key m) i []) z ∙ at m (omega arith))
       (at (nk + m - 1) (omega arith))
-
-append-bytes : (a b : List ℕ) → Bytes a → Bytes b → Bytes (a ++ b)
-append-bytes [] b ha hb i = hb i
-append-bytes (x ∷ a) b ha hb zero = ha 0
-append-bytes (x ∷ a) b ha hb (suc i) = append-bytes a b (λ j. ha (suc j)) hb i
 
 -- each round key is of bytes
 pub roundKeys-bytes : (nk : ℕ) (key : List ℕ) → Bytes key → (n : ℕ) → Bytes (getD (roundKeys nk key) n [])

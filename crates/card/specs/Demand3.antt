@@ -9,13 +9,11 @@ use lib.Dec.{eqb}
 use lib.ListN.{length, getD, replicate}
 use lib.Seq.{getD-at}
 use borrow.Author.Tests.{eqb-true}
-use Rattle.work.specs.Steps.{comparison, decipherment, encipherment, expansion, hashBlock, counted, workSum}
+use Rattle.work.specs.Steps.{comparison, decipherment, encipherment, expansion, hashBlock, workSum}
 use Rattle.frame.specs.Frame.{frameOf, insOf, lcOf, initialIns, dataOf}
-use Rattle.frame.specs.Declines.{verdict}
-use Rattle.frame.specs.Laws.{Passed, passed, data-long}
+use Rattle.frame.specs.Laws.{passed, data-long}
 use Rattle.frame.specs.declared.Verdict.{Verdict}
-use Rattle.plaid_types.specs.Cards.{noSet}
-use Rattle.initial.specs.Initial.{initialSteps, slotOf, acceptsInitial, acceptedInitial, refusedInitial, initialReply, blockOf}
+use Rattle.initial.specs.Initial.{initialSteps, slotOf, acceptsInitial, refusedInitial, initialReply, blockOf}
 use Rattle.initial.specs.Laws.{initial-counted, initial-length, initial-rnd1}
 use Rattle.octets.specs.Lists.{part, over}
 use Rattle.aes.specs.Aes.{aes}
@@ -27,7 +25,7 @@ use Rattle.plaid_types.specs.declared.Session.{Session}
 use Rattle.plaid_types.specs.declared.Card.{Card}
 use Rattle.plaid_types.specs.declared.Outcome.{Outcome}
 use Rattle.card.specs.Command.{replyTo, told, declined, verdictOn, outcome, answerBytes}
-use Rattle.card.specs.Lists.{Call, outcomeOf, bytesOf, run, isDeclined, isInitial, nextSession, sessionAfter, stepsOf, Shape, shapeOf, initialShape, finalShape, declineShape, formulas, formulasOf, Alike, AllAlike, none, more, Agree, accepted, SameAnswer, Indistinct}
+use Rattle.card.specs.Lists.{Call, outcomeOf, bytesOf, run, isInitial, nextSession, sessionAfter, stepsOf, Shape, shapeOf, initialShape, finalShape, declineShape, formulas, formulasOf, Alike, AllAlike, none, more, Agree, accepted, SameAnswer, Indistinct}
 
 -- what the theorems ask of a card: what a load and every call leave true of it
 pub record Sound (c : Card) : Type 0 where

@@ -2,7 +2,7 @@
 use mathlib.Core.Path.{_≡_, refl, sym, ap, _∙_}
 use mathlib.Core.Bool.{true, false}
 use mathlib.Core.List.{List}
-use Prim.Native.Nat.{ℕ, _*_}
+use Prim.Native.Nat.{ℕ}
 use native.Mathlib.Omega.{arith}
 use lib.Dec.{eqb}
 use lib.ListN.{length, getD}
@@ -12,7 +12,6 @@ use Rattle.work.specs.Steps.{comparison, decipherment, encipherment, expansion,
 use Rattle.frame.specs.Frame.{frameOf, insOf, dataOf}
 use Rattle.frame.specs.Laws.{command-ins}
 use Rattle.frame.specs.declared.Verdict.{Verdict}
-use Rattle.list.specs.Ber.{placeCount}
 use Rattle.initial.specs.Initial.{initialReply}
 use Rattle.initial.specs.Told.{toldInitial}
 use Rattle.initial.specs.Laws.{initial-counted}

@@ -1,13 +1,14 @@
 -- Blocks in a chain, each made of itself and what the one before hands on: lengths, bytes, and that one chain undoes another.
 -- Both ways of CBC are such chains. Assumes nothing.
 use mathlib.Core.Path.{_≡_, refl, sym, ap, ap₂, _∙_}
-use mathlib.Core.List.{List, [], _∷_, _++_, append-assoc, append-nil}
+use mathlib.Core.List.{List, [], _++_, append-assoc, append-nil}
 use Prim.Native.Nat.{ℕ, zero, suc, _+_, _*_, _/_, _<_, _≤_}
 use native.Mathlib.Omega.{arith}
 use lib.ListN.{length, take, drop, length-append, length-drop, take-append-drop}
-use lib.Seq.{take-at, drop-at, take-all, take-append-le, drop-append-le, drop-drop, getD-drop, length-take-le}
+use lib.Seq.{take-at, drop-at, take-all, take-append-le, drop-append-le, drop-drop, length-take-le}
 use Rattle.octets.specs.Bytes.{Bytes, Block}
 use Rattle.octets.specs.Lists.{part, length-part}
+use Rattle.octets.specs.ByteLists.{append-bytes, take-bytes, drop-bytes}
 
 -- n blocks of s: `out` makes a block, `next` what it hands on
 unfoldable pub chain : (out next : List ℕ → List ℕ → List ℕ) → List ℕ → ℕ → List ℕ → List ℕ
@@ -17,20 +18,6 @@ chain out next c (suc n) s = out c (part s 0 16) ++ chain out next (next c (part
 -- the whole blocks of s, and what stands behind them as it was
 unfoldable pub whole : (out next : List ℕ → List ℕ → List ℕ) → List ℕ → List ℕ → List ℕ
 whole out next c s = chain out next c (length s / 16) s ++ drop (16 * (length s / 16)) s
-
-append-bytes : (a b : List ℕ) → Bytes a → Bytes b → Bytes (a ++ b)
-append-bytes [] b ha hb i = hb i
-append-bytes (x ∷ a) b ha hb zero = ha 0
-append-bytes (x ∷ a) b ha hb (suc i) = append-bytes a b (λ j. ha (suc j)) hb i
-
-take-bytes : (n : ℕ) (s : List ℕ) → Bytes s → Bytes (take n s)
-take-bytes zero s b i = omega arith
-take-bytes (suc n) [] b i = omega arith
-take-bytes (suc n) (x ∷ s) b zero = b 0
-take-bytes (suc n) (x ∷ s) b (suc i) = take-bytes n s (λ j. b (suc j)) i
-
-drop-bytes : (n : ℕ) (s : List ℕ) → Bytes s → Bytes (drop n s)
-drop-bytes n s b i = rw (getD-drop n s i 0) (b (n + i))
 
 part-block : (s : List ℕ) → Bytes s → 16 ≤ length s → Block (part s 0 16)
 unfolding part

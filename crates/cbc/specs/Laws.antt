@@ -13,7 +13,7 @@ use Rattle.octets.specs.Xor.{xor-cancel}
 use Rattle.work.specs.Steps.{counted, decipherment, encipherment}
 use Rattle.cbc.specs.Cbc.{_⊕_, encrypted, decrypted, encryptedWhole, decryptedWhole}
 use Rattle.cbc.specs.Steps.{enciphered, deciphered}
-use Rattle.cbc.specs.Chain.{chain, whole, chain-front, whole-all, chain-bytes, length-chain, whole-bytes, length-whole, chain-undone, whole-undone}
+use Rattle.cbc.specs.Chain.{chain, whole, chain-front, whole-all, chain-bytes, whole-bytes, length-whole, chain-undone, whole-undone}
 
 pub xor-block : (a b : List ℕ) → Bytes a → Bytes b → Block (a ⊕ b)
 unfolding _⊕_
@@ -129,12 +129,6 @@ module _ (ciph inv : List ℕ → List ℕ) (k : BlockCipher ciph inv) where
 
     -- the n blocks that s begins with
     module _ (n : ℕ) (h : 16 * n ≤ length s) where
-      pub length-encrypted : length (encrypted ciph iv n s) ≡ 16 * n
-      length-encrypted = ap length (encrypted-chain ciph n iv s) ∙ length-chain (link ciph) (link ciph) link-block link-bytes n iv s hi hs h
-
-      pub length-decrypted : length (decrypted inv iv n s) ≡ 16 * n
-      length-decrypted = ap length (decrypted-chain inv n iv s) ∙ length-chain (unlink inv) taken unlink-block taken-bytes n iv s hi hs h
-
       pub encrypted-bytes : Bytes (encrypted ciph iv n s)
       encrypted-bytes = rw (encrypted-chain ciph n iv s) (chain-bytes (link ciph) (link ciph) link-block link-bytes n iv s hi hs h)
 

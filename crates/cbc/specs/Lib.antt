@@ -3,3 +3,4 @@ pub mod Steps
 pub mod Chain
 pub mod Laws
 pub mod Aes
+pub mod Lengths

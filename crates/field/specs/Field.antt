@@ -1,6 +1,6 @@
 -- FIPS 197, sections 4.1, 4.2 and 4.4: a byte as an element of GF(2^8), here a number below 256.
 use mathlib.Core.Path.{_≡_, refl}
-use Prim.Native.Nat.{ℕ, zero, suc, _+_, _*_, _/_, _%_}
+use Prim.Native.Nat.{ℕ, zero, suc, _*_, _/_, _%_}
 use lib.Bits.{bitXor}
 
 -- 4.1: addition is the exclusive or of the bits, `bitXor`

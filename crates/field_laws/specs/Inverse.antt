@@ -4,7 +4,7 @@ use mathlib.Core.Path.{_≡_, refl}
 use mathlib.Core.Bool.{Bool}
 use Prim.Native.Nat.{ℕ, suc, _<_}
 use lib.Dec.{T, eqb, eqb→eq, ltb, ltb→lt}
-use Rattle.octets.specs.Tests.{both, both-left, both-right, below, below-at}
+use Rattle.octets.specs.Tests.{both, both-left, both-right, below-at}
 use Rattle.field.specs.Field.{mul, inverse}
 
 undoes : ℕ → Bool

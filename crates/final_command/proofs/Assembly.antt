@@ -11,6 +11,7 @@ use Rattle.rounds.specs.Cipher.{cipher}
 use Rattle.rounds.specs.InvCipher.{invCipher}
 use Rattle.aes.specs.KeyExpansion.{roundKeys}
 use Rattle.aes.specs.Aes.{aes, invAes}
+use Rattle.aes.specs.RoundTrip.{length-aes}
 use Rattle.sha256.specs.Hash.{sha256}
 use Rattle.work.specs.Steps.{Step, comparison, decipherment, encipherment, expansion, hashBlock, bytesOf, mixedAll, sumFrom, counted, workSum}
 use Rattle.work.specs.Laws.{sumFrom-append, counted-append}
@@ -27,7 +28,7 @@ use Rattle.plaid_types.specs.declared.Card.{Card}
 use Rattle.final_command.specs.Final.{zeros, faKeyOf, rnd1Of, diversified, blocksIn, textOf, hashedOf, keysHash, opMode, modeSteps, firstMode, modeOf, decipheredText, accepting, acceptsFinal, replyKey, sizeOf, replyText, replyBuffer, finalBytes, finalSteps, finalReply}
 use Rattle.final_command.specs.Told.{toldFinal}
 use Rattle.final_command.specs.Parts.{divSteps, textSteps, openedText, replySteps, sent, bufferOf}
-use Rattle.final_command.specs.Laws.{length-aes, final-length, counted-modes}
+use Rattle.final_command.specs.Laws.{final-length, counted-modes}
 use Rattle.final_command.specs.declared.Diversified.{Diversified}
 use Rattle.final_command.specs.declared.Deciphered.{Deciphered}
 use Rattle.final_command.specs.declared.Opened.{Opened}
@@ -130,7 +131,7 @@ module _ (key key′ b y o o′ : List ℕ) (rows : List (List ℕ)) (size size�
   pub bytes-same : y ≡ encryptedWhole (cipher 10 rows) zeros (take n b) → o′ ≡ over o 0 (take n (y ++ drop n b)) → o′ ≡ over o 0 (encrypted (aes 4 key′) zeros size′ (buffer size′))
   bytes-same qy qo =
       let v : take n (y ++ drop n b) ≡ encrypted (aes 4 key) zeros size b =
-      buffer-encrypted b (take n b) n size qn within refl y (aes 4 key) zeros (length-aes key) (qy ∙ ap (λ (f : List ℕ → List ℕ). encryptedWhole f zeros (take n b)) ciph-is) in
+      buffer-encrypted b (take n b) n size qn within refl y (aes 4 key) zeros (length-aes 4 key) (qy ∙ ap (λ (f : List ℕ → List ℕ). encryptedWhole f zeros (take n b)) ciph-is) in
       qo ∙ ap (over o 0) v ∙ (λ i. over o 0 (encrypted (aes 4 (qk i)) zeros (qs i) (buffer-is i)))
 
 -- the whole

@@ -3,21 +3,14 @@
 use mathlib.Core.Path.{_≡_, sym, ap, ap₂, _∙_}
 use mathlib.Core.List.{List, _++_, append-nil}
 use Prim.Native.Nat.{ℕ, _+_, _-_, _*_, _≤_}
-use native.Mathlib.Nat.{zero-add}
 use native.Mathlib.Omega.{arith}
 use borrow.Author.Tests.{le-leb}
 use lib.ListN.{length, take, drop, length-append, drop-of-length-le}
-use lib.Seq.{take-at, drop-append-add, drop-drop, length-take-le, length-front}
+use lib.Seq.{drop-append-add, drop-drop, length-take-le, length-front}
 use Rattle.octets.specs.Lists.{over, length-over}
+use Rattle.octets.specs.Writes.{over-front, take-over}
 use Rattle.padding.specs.Method2.{blocksFor, padded, padBuffer}
 use Rattle.padding.specs.Laws.{length-padded}
-
-pub over-front : (d s : List ℕ) → over d 0 s ≡ s ++ drop (length s) d
-unfolding over
-over-front d s = ap (λ (n : ℕ). s ++ drop n d) (zero-add (length s))
-
-pub take-over : (d s : List ℕ) (n : ℕ) → length s ≡ n → take n (over d 0 s) ≡ s
-take-over d s n e = ap (take n) (over-front d s) ∙ take-at s (drop (length s) d) n e
 
 pub drop-over : (d s : List ℕ) (n : ℕ) → drop (length s + n) (over d 0 s) ≡ drop (length s + n) d
 drop-over d s n = ap (drop (length s + n)) (over-front d s) ∙ drop-append-add s (drop (length s) d) n ∙ drop-drop n (length s) d

@@ -3,15 +3,16 @@ use mathlib.Core.Path.{_≡_, refl, sym, ap, ap₂, _∙_}
 use mathlib.Core.List.{List, _∷_, _++_}
 use Prim.Native.Nat.{ℕ, zero, suc, _*_, _/_, _≤_}
 use native.Mathlib.Omega.{arith}
-use lib.ListN.{length, take, drop, length-append, length-drop, take-append-drop}
+use lib.ListN.{length, take, drop, length-drop, take-append-drop}
 use lib.Seq.{take-append-le, drop-append-le, take-at, length-take-le}
 use Rattle.octets.specs.Lists.{part, over}
+use Rattle.octets.specs.Writes.{take-over}
 use Rattle.work.specs.Steps.{Step}
 use Rattle.cbc.specs.Cbc.{_⊕_, encrypted, decrypted, encryptedWhole, decryptedWhole}
 use Rattle.cbc.specs.Steps.{encipherStep, decipherStep, enciphered, deciphered}
 use Rattle.cbc.specs.Laws.{encrypted-all, decrypted-all, encrypted-front, decrypted-front}
-use Rattle.final_command.specs.Laws.{length-encrypted}
-use Rattle.final_command.proofs.Buffers.{take-over, over-again}
+use Rattle.cbc.specs.Lengths.{length-encrypted, length-decrypted}
+use Rattle.final_command.proofs.Buffers.{over-again}
 
 module _ (key : List ℕ) (f : List ℕ → List ℕ) where
   deciphered-front : (n : ℕ) (s t : List ℕ) → 16 * n ≤ length s → deciphered key f n (s ++ t) ≡ deciphered key f n s
@@ -27,13 +28,6 @@ module _ (key : List ℕ) (f : List ℕ → List ℕ) where
   enciphered-front (suc n) c s t h =
       ap₂ (λ (p r : List ℕ). encipherStep key f (p ⊕ c) ∷ enciphered key f (f (p ⊕ c)) n r) (take-append-le 16 s t (omega arith)) (drop-append-le 16 s t (omega arith))
       ∙ ap (λ (x : List Step). encipherStep key f (part s 0 16 ⊕ c) ∷ x) (enciphered-front n (f (part s 0 16 ⊕ c)) (drop 16 s) t (omega (arith, length-drop 16 s)))
-
-length-decrypted : (inv : List ℕ → List ℕ) (n : ℕ) (iv s : List ℕ) → length (decrypted inv iv n s) ≡ 16 * n
-unfolding decrypted _⊕_
-length-decrypted inv zero iv s = refl
-length-decrypted inv (suc n) iv s =
-    length-append (inv (part s 0 16) ⊕ iv) (decrypted inv (part s 0 16) n (drop 16 s))
-    ∙ omega (arith, length-decrypted inv n (part s 0 16) (drop 16 s))
 
 -- n bytes of s, which are k blocks
 module _ (s a : List ℕ) (n k : ℕ) (e : n ≡ 16 * k) (h : n ≤ length s) (is : a ≡ take n s) where

@@ -8,36 +8,26 @@ use lib.Dec.{eqb, ltb}
 use lib.ListN.{length, replicate, drop, length-append, length-drop}
 use borrow.Author.Tests.{ltb-false}
 use Rattle.octets.specs.Lists.{part, over, table, length-part}
-use Rattle.rounds.specs.Cipher.{cipher, lastRound}
 use Rattle.aes.specs.Aes.{aes, invAes}
+use Rattle.aes.specs.RoundTrip.{length-aes}
 use Rattle.sha256.specs.Parsing.{blocks}
-use Rattle.sha256.specs.PaddingLaws.{blocks-count}
 use Rattle.work.specs.Steps.{comparison, decipherment, encipherment, expansion, hashBlock, counted}
-use Rattle.work.specs.Laws.{counted-append}
-use Rattle.cbc.specs.Cbc.{_⊕_, encrypted, decrypted}
+use Rattle.work.specs.Laws.{counted-append, times-none, times-more}
+use Rattle.cbc.specs.Cbc.{decrypted}
 use Rattle.cbc.specs.Steps.{enciphered, deciphered}
+use Rattle.cbc.specs.Lengths.{length-encrypted}
 use Rattle.steps.specs.Made.{hashStep, hashSteps}
+use Rattle.steps.specs.Laws.{blocks-one}
 use Rattle.plaid_types.specs.declared.ModeSlot.{ModeSlot}
 use Rattle.plaid_types.specs.declared.Card.{Card}
 use Rattle.final_command.specs.Final.{zeros, rnd1Of, diversified, blocksIn, textOf, hashedOf, modeSteps, replyKey, sizeOf, replyBuffer, finalBytes, finalSteps, finalReply}
 
-pub length-aes : (key s : List ℕ) → length (aes 4 key s) ≡ 16
-unfolding cipher lastRound
-length-aes key s = refl
-
-pub length-encrypted : (ciph : List ℕ → List ℕ) → ((x : List ℕ) → length (ciph x) ≡ 16) → (n : ℕ) (iv s : List ℕ) → length (encrypted ciph iv n s) ≡ 16 * n
-unfolding encrypted
-length-encrypted ciph h zero iv s = refl
-length-encrypted ciph h (suc n) iv s =
-    let x : List ℕ = part s 0 16 ⊕ iv in
-    length-append (ciph x) (encrypted ciph (ciph x) n (drop 16 s)) ∙ omega (arith, h x, length-encrypted ciph h n (ciph x) (drop 16 s))
-
 -- "Answer length: .. 16B"
 pub final-length : (c : Card) (d fresh : List ℕ) → length (finalReply c d fresh .bytes) ≡ 16 * sizeOf c
 unfolding finalReply finalBytes
-final-length c d fresh = length-encrypted (aes 4 (replyKey c d)) (length-aes (replyKey c d)) (sizeOf c) zeros (replyBuffer c d fresh)
+final-length c d fresh = length-encrypted (aes 4 (replyKey c d)) (length-aes 4 (replyKey c d)) (sizeOf c) zeros (replyBuffer c d fresh)
 
-least-is : (a b : ℕ) (t : Bool) → ltb a b ≡ t → a ≤ b → cond t a b ≡ a
+pub least-is : (a b : ℕ) (t : Bool) → ltb a b ≡ t → a ≤ b → cond t a b ≡ a
 least-is a b true e h = refl
 least-is a b false e h = omega (arith, ltb-false a b e)
 
@@ -48,14 +38,6 @@ size-loaded c h = least-is (c .«reply_size») 6 (ltb (c .«reply_size») 6) ref
 -- one for a step of kind j among those of kind k
 abbrev of-kind : ℕ → ℕ → ℕ
 of-kind j k = cond (eqb j k) 1 0
-
-times-more : (t : Bool) (n : ℕ) → cond t 1 0 + n * cond t 1 0 ≡ suc n * cond t 1 0
-times-more true n = omega arith
-times-more false n = omega arith
-
-times-none : (t : Bool) → 0 ≡ 0 * cond t 1 0
-times-none true = refl
-times-none false = refl
 
 counted-deciphered : (k : ℕ) (key : List ℕ) (inv : List ℕ → List ℕ) (n : ℕ) (s : List ℕ) → counted k (deciphered key inv n s) ≡ n * of-kind decipherment k
 unfolding deciphered
@@ -92,9 +74,6 @@ unfolding hashedOf textOf
 length-hashed c d h =
     length-append (rnd1Of c) (part (textOf c d) 2 16)
     ∙ omega (arith, length-part (textOf c d) 2 16 (omega (arith, length-over-most (replicate 240 0) (decrypted (invAes 4 (diversified c)) zeros (blocksIn d) d))))
-
-blocks-one : (m : List ℕ) → length m ≡ 32 → blocks m ≡ 1
-blocks-one m e = blocks-count m ∙ omega (arith, e)
 
 -- "Final: 16 comparisons, n decipherments, B + 1 encipherments, 3 expansions, 1 hash block."
 module _ (c : Card) (d fresh : List ℕ) (lm : length (c .modes) ≡ 16) (lr : length (rnd1Of c) ≡ 16) where

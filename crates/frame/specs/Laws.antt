@@ -1,17 +1,16 @@
 -- Laws of the frame and of what is checked before a command is run: the bytes of a frame are those of the command, and what a call that is not
 -- declined has shown. Assumes nothing.
-use mathlib.Core.Path.{_≡_, refl, sym, ap, ap₂, _∙_}
-use mathlib.Core.Bool.{Bool, true, false, cond, _&&_, _||_, and-eq-true-iff}
+use mathlib.Core.Path.{_≡_, refl, sym, ap, _∙_}
+use mathlib.Core.Bool.{Bool, true, false, cond, _&&_, and-eq-true-iff, and-true}
 use mathlib.Core.List.{List, _++_}
 use Prim.Native.Nat.{ℕ, _+_, _-_, _<_, _≤_}
 use native.Mathlib.Omega.{arith}
 use borrow.Author.Tests.{eqb-true, ltb-true, ltb-false, eq-eqb, lt-ltb}
 use lib.Dec.{eqb, ltb}
-use lib.ListN.{length, getD, List·getD-append}
+use lib.ListN.{length, getD, List·getD-append, drop, length-drop, drop-of-length-le}
 use lib.Seq.{getD-append-add}
-use Rattle.octets.specs.Bytes.{Bytes}
 use Rattle.octets.specs.Lists.{part, length-part, getD-part}
-use Rattle.frame.specs.Frame.{frameOf, claOf, insOf, p1Of, p2Of, lcOf, leOf, knownIns, initialIns, finalIns, whole, statusOf, dataOf}
+use Rattle.frame.specs.Frame.{frameOf, claOf, insOf, p1Of, p2Of, lcOf, leOf, knownIns, whole, statusOf, dataOf}
 use Rattle.frame.specs.Declines.{noZero, padBytes, verdict}
 use Rattle.frame.specs.declared.Verdict.{Verdict}
 
@@ -50,14 +49,6 @@ last-by c false e h =
 pub frame-last : (c : List ℕ) → 6 ≤ length c → leOf (frameOf c) ≡ getD c (length c - 1) 0
 unfolding frameOf
 frame-last c h = last-by c (ltb (length c) 6) refl h
-
--- a known INS is one of the two
-known-by : (i : ℕ) (t : Bool) → eqb i initialIns ≡ t → (t || eqb i finalIns) ≡ true → (i ≡ initialIns → ⊥) → i ≡ finalIns
-known-by i true e q n = absurd (n (eqb-true i initialIns e))
-known-by i false e q n = eqb-true i finalIns q
-
-pub known-is : (i : ℕ) → knownIns i ≡ true → (i ≡ initialIns → ⊥) → i ≡ finalIns
-known-is i e n = known-by i (eqb i initialIns) refl e n
 
 -- a frame is whole by its Lc, its total and its Le
 pub whole-is : (n : ℕ) (f : List ℕ) → 0 < lcOf f → n ≡ lcOf f + 6 → leOf f ≡ 0 → whole n f ≡ true
@@ -119,18 +110,6 @@ unfolding statusOf
 faultless n f q =
     faultless-by n f (ltb n 4) (eqb (claOf f) 0) (knownIns (insOf f)) (eqb (p1Of f) 0 && eqb (p2Of f) 0) (whole n f) refl refl refl refl refl q
 
-some-by : (s t u v w : Bool) → _≡_ {A = ℕ} (cond s 0x6700 (cond t (cond u (cond v (cond w 0x9000 0x6700) 0x6A86) 0x6D00) 0x6E00)) 0 → ⊥
-some-by true t u v w q = omega arith
-some-by false false u v w q = omega arith
-some-by false true false v w q = omega arith
-some-by false true true false w q = omega arith
-some-by false true true true false q = omega arith
-some-by false true true true true q = omega arith
-
-pub status-some : (n : ℕ) (f : List ℕ) → statusOf n f ≡ 0 → ⊥
-unfolding statusOf
-status-some n f q = some-by (ltb n 4) (eqb (claOf f) 0) (knownIns (insOf f)) (eqb (p1Of f) 0 && eqb (p2Of f) 0) (whole n f) q
-
 -- what a call has shown that is not declined
 pub record Passed (n : ℕ) (f fresh : List ℕ) (room : ℕ) : Type 0 where
   pub fresh-long : length fresh ≡ 253
@@ -178,10 +157,10 @@ pub data-long : (c : List ℕ) → Faultless (length c) (frameOf c) → length (
 unfolding dataOf
 data-long c k = length-part c 5 (length c - 6) (omega arith) ∙ omega arith
 
-pub lc-byte : (c : List ℕ) → Bytes c → lcOf (frameOf c) < 256
-lc-byte c b = omega (arith, frame-byte c 4 (omega arith), b 4)
+pub length-pads : (fresh : List ℕ) → length fresh ≡ 253 → length (padBytes fresh) ≡ 203
+unfolding padBytes
+length-pads fresh e = omega (arith, length-drop 50 fresh)
 
--- commands of the same frame and length are judged the same
-pub verdict-same : (c d fresh : List ℕ) (room : ℕ) → length c ≡ length d → frameOf c ≡ frameOf d →
-    verdict (length c) (frameOf c) fresh room ≡ verdict (length d) (frameOf d) fresh room
-verdict-same c d fresh room p q = ap₂ (λ (n : ℕ) (f : List ℕ). verdict n f fresh room) p q
+-- the look for a zero byte ends where the list does
+pub zero-done : (s : List ℕ) (i : ℕ) (ok all : Bool) → length s ≤ i → (ok && noZero (drop i s)) ≡ all → ok ≡ all
+zero-done s i ok all h e = sym (ap (λ (l : List ℕ). ok && noZero l) (drop-of-length-le s {i = i} h) ∙ and-true ok) ∙ e

@@ -19,7 +19,8 @@ use Rattle.initial.specs.Told.{dataFound, headOf, toldInitial}
 use Rattle.initial.specs.Laws.{initial-length}
 use Rattle.initial.specs.declared.Found.{Found}
 use Rattle.initial.specs.declared.Initial.{Initial}
-use Rattle.initial.proofs.Writes.{over-next, length-pads}
+use Rattle.octets.specs.Writes.{over-next}
+use Rattle.frame.specs.Laws.{length-pads}
 
 -- an element that is there is the same by every default
 getD-there : (l : List KeySetSlot) (i : ℕ) (x y : KeySetSlot) → i < length l → getD l i x ≡ getD l i y

@@ -1,44 +1,20 @@
 -- Writes one behind the other, as one: those of the head and of STR1. Assumes nothing.
-use mathlib.Core.Path.{_≡_, refl, sym, ap, ap₂, _∙_}
+use mathlib.Core.Path.{_≡_, refl, ap, _∙_}
 use mathlib.Core.List.{List, [], _∷_, _++_, append-assoc}
 use Prim.Native.Nat.{ℕ, _+_, _-_, _/_, _%_, _≤_}
 use native.Mathlib.Omega.{arith}
 use lib.ListN.{length, take, drop, length-append, length-drop}
-use lib.Seq.{length-take-le, take-all, take-at, drop-append-add, drop-drop}
+use lib.Seq.{take-all}
 use Rattle.octets.specs.Lists.{over}
+use Rattle.octets.specs.Writes.{over-next}
 use Rattle.frame.specs.Declines.{padBytes}
+use Rattle.frame.specs.Laws.{length-pads}
 use Rattle.initial.specs.Initial.{str1}
 use Rattle.initial.specs.Told.{headOf}
-
--- s is written over d, and t behind it
-pub over-next : (d s t : List ℕ) (at : ℕ) {bt : ℕ} {e e′ : List ℕ} → at + length s ≡ bt → at ≤ length d → e ≡ over d at s → e′ ≡ over e bt t → e′ ≡ over d at (s ++ t)
-unfolding over
-over-next d s t at {bt} l k q r =
-    r ∙ ap (λ (x : List ℕ). over x bt t) q
-    ∙ ap₂ (λ (x y : List ℕ). x ++ t ++ y)
-    (take-at p rest bt m)
-    (ap (λ (n : ℕ). drop (n + length t) (p ++ rest)) (sym m) ∙ drop-append-add p rest (length t) ∙ drop-drop (length t) (at + length s) d ∙ ap (λ (n : ℕ). drop n d) n)
-    ∙ ap (λ (x : List ℕ). x ++ drop (at + length (s ++ t)) d) (append-assoc (take at d) s t)
-  where
-    p : List ℕ
-    p = take at d ++ s
-
-    rest : List ℕ
-    rest = drop (at + length s) d
-
-    m : length p ≡ bt
-    m = length-append (take at d) s ∙ ap (λ (n : ℕ). n + length s) (length-take-le at d k) ∙ l
-
-    n : at + length s + length t ≡ at + length (s ++ t)
-    n = omega (arith, length-append s t)
 
 -- all from place n on
 pub take-drop-all : (n : ℕ) (l : List ℕ) → take (length l - n) (drop n l) ≡ drop n l
 take-drop-all n l = take-all (length l - n) (drop n l) (omega (arith, length-drop n l))
-
-pub length-pads : (fresh : List ℕ) → length fresh ≡ 253 → length (padBytes fresh) ≡ 203
-unfolding padBytes
-length-pads fresh l = length-drop 50 fresh ∙ omega arith
 
 pub head-writes :
     (fresh d : List ℕ) {e₁ e₂ e₃ : List ℕ}

@@ -11,7 +11,6 @@ use Rattle.frame.specs.Declines.{padBytes}
 use Rattle.list.specs.Ber.{entryAt, placeCount, listed}
 use Rattle.plaid_types.specs.Cards.{noSession, noSet, Reply}
 use Rattle.plaid_types.specs.declared.KeySetSlot.{KeySetSlot}
-use Rattle.plaid_types.specs.declared.Session.{Session}
 use Rattle.plaid_types.specs.declared.Card.{Card}
 
 -- a place "compared with all eight slots", in order

@@ -8,7 +8,7 @@ use lib.Dec.{eqb}
 use lib.ListN.{length, getD, length-append, length-drop}
 use Rattle.octets.specs.Lists.{part, length-part}
 use Rattle.work.specs.Steps.{comparison, counted}
-use Rattle.work.specs.Laws.{counted-append}
+use Rattle.work.specs.Laws.{counted-append, times-none, times-more}
 use Rattle.frame.specs.Declines.{padBytes}
 use Rattle.list.specs.Ber.{entryAt, placeCount, listed}
 use Rattle.plaid_types.specs.Cards.{noSet}
@@ -21,16 +21,8 @@ abbrev of-kind : ℕ → ℕ
 of-kind k = cond (eqb comparison k) 1 0
 
 pub counted-slots : (k : ℕ) (present : Bool) (v : ℕ) (sets : List KeySetSlot) → counted k (slotSteps present v sets) ≡ length sets * of-kind k
-counted-slots k present v [] = kind-none (eqb comparison k)
-  where
-    kind-none : (t : Bool) → 0 ≡ 0 * cond t 1 0
-    kind-none true = refl
-    kind-none false = refl
-counted-slots k present v (x ∷ xs) = ap (λ (n : ℕ). of-kind k + n) (counted-slots k present v xs) ∙ kind-more (eqb comparison k) (length xs)
-  where
-    kind-more : (t : Bool) (n : ℕ) → cond t 1 0 + n * cond t 1 0 ≡ suc n * cond t 1 0
-    kind-more true n = omega arith
-    kind-more false n = omega arith
+counted-slots k present v [] = times-none (eqb comparison k)
+counted-slots k present v (x ∷ xs) = ap (λ (n : ℕ). of-kind k + n) (counted-slots k present v xs) ∙ times-more (eqb comparison k) (length xs)
 
 counted-places : (k : ℕ) (sets : List KeySetSlot) (formed : Bool) (d : List ℕ) (p n : ℕ) → length sets ≡ 8 → counted k (placeSteps sets formed d p n) ≡ 8 * n * of-kind k
 unfolding placeSteps

@@ -7,10 +7,9 @@ use native.Mathlib.Omega.{arith}
 use borrow.Author.Tests.{ltb-true, eqb-true, lt-ltb, le-ltb}
 use lib.Dec.{eqb, ltb}
 use lib.ListN.{length, getD}
-use Rattle.octets.specs.Bytes.{Bytes}
 use Rattle.list.specs.declared.Length.{Length}
 use Rattle.list.specs.declared.Entry.{Entry}
-use Rattle.list.specs.Ber.{lengthAt, entryAt, head, walked, listed, noLength, noEntry}
+use Rattle.list.specs.Ber.{lengthAt, entryAt, head, walked, noLength, noEntry}
 
 -- the bytes of a length v at place p, in one of its two forms, up to place n
 pub data Sized (d : List ℕ) (p v n : ℕ) : Type 0 where
@@ -125,13 +124,6 @@ pub record Four (d : List ℕ) (p n : ℕ) : Type 0 where
 seen-four : {d : List ℕ} {p m : ℕ} → Seen d p m → Four d p (m + 2)
 seen-four s = let r = sized-reach (s .sized) in let h = s .content in record { four = omega arith; within = omega arith }
 
-four-by : (d : List ℕ) (p : ℕ) (e : Entry) → Case d p e → e .ok ≡ true → Four d p (e .next)
-four-by d p e (there m s q) t = rw q (seen-four s)
-four-by d p e (missing q) t = absurd (false≢true (sym (ap (λ (x : Entry). x .ok) q) ∙ t))
-
-pub entry-four : (d : List ℕ) (p : ℕ) → entryAt d p .ok ≡ true → Four d p (entryAt d p .next)
-entry-four d p = four-by d p (entryAt d p) (entry-case d p)
-
 -- no entry leads back, nor out of the data
 next-ge-by : (d : List ℕ) (p : ℕ) (e : Entry) → Case d p e → p ≤ e .next
 next-ge-by d p e (there m s q) = let f = seen-four s in rw q (omega arith)
@@ -146,14 +138,6 @@ next-le-by d p e (missing q) h = rw q h
 
 pub next-le : (d : List ℕ) (p : ℕ) → p ≤ length d → entryAt d p .next ≤ length d
 next-le d p = next-le-by d p (entryAt d p) (entry-case d p)
-
--- a KeySetID is two bytes
-id-by : (d : List ℕ) (p : ℕ) (e : Entry) → Case d p e → Bytes d → e .id < 65536
-id-by d p e (there m s q) b = let x = b m in let y = b (m + 1) in rw q (omega arith)
-id-by d p e (missing q) b = rw q (omega arith)
-
-pub id-lt : (d : List ℕ) (p : ℕ) → Bytes d → entryAt d p .id < 65536
-id-lt d p = id-by d p (entryAt d p) (entry-case d p)
 
 -- a head h is right, tag 30 and the length l that says just what is left, or there is none
 pub record Right (d : List ℕ) (l h : Length) : Type 0 where
@@ -197,10 +181,6 @@ head-right d = right-by d (lengthAt d 1) (head d) (head-case d)
 first-by : (d : List ℕ) (l h : Length) → HeadCase d l h → h .next ≤ length d
 first-by d l h (right r) = let q = r .fits in rw (r .is) (omega arith)
 first-by d l h (wrong q) = rw q (omega arith)
-
-pub first-le : (d : List ℕ) → listed d .first ≤ length d
-unfolding listed
-first-le d = first-by d (lengthAt d 1) (head d) (head-case d)
 
 -- a walk, from its front and from its back
 pub walked-front : (d : List ℕ) (p n : ℕ) → walked d p (suc n) ≡ walked d (entryAt d p .next) n

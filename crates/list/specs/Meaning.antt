@@ -8,13 +8,12 @@ use native.Mathlib.Nat.{not-suc-le-zero}
 use native.Mathlib.Numerals.{add-one}
 use native.Mathlib.Omega.{arith}
 use borrow.Author.Tests.{eq-eqb, eqb-true}
-use lib.Dec.{eqb}
 use lib.ListN.{length, getD, drop, length-drop}
 use lib.Seq.{drop-cons, drop-length, ext-getD}
 use Rattle.octets.specs.Bytes.{Bytes}
 use Rattle.list.specs.declared.Length.{Length}
 use Rattle.list.specs.declared.Entry.{Entry}
-use Rattle.list.specs.Ber.{lengthAt, entryAt, head, walked, listed, placeCount}
+use Rattle.list.specs.Ber.{lengthAt, entryAt, head, walked, listed}
 use Rattle.list.specs.Laws.{Sized, short-at, long-at, sized-length, sized-reach, length-sized, Seen, seen-entry, Case, there, missing, entry-case, past-entry, head-right, stuck, walked-front, walked-back, walked-add}
 use Rattle.list.specs.Encoding.{IsLength, short, long, AreEntries, none, more, Encodes, list, shortEntries, encoded}
 
@@ -156,10 +155,6 @@ encodes-formed {d} {ids} e =
     let h = head-seen e in
     simp (h .ok, h .next, eq-eqb (walked d (h .n) (length d / 4)) (length d) (walks-enough (h .entries) (h .rest)))
 
--- it has no more entries than floor(Lc/4)
-pub encodes-count : {d ids : List ℕ} → Encodes ids d → length ids ≤ placeCount d
-encodes-count e = let h = head-seen e in omega (arith, entries-long (h .entries), at-length (h .rest))
-
 -- each KeySetID is at its place of the walk
 pub encodes-place : {d ids : List ℕ} → Encodes ids d → (j : ℕ) → j < length ids → Place d (walked d (listed d .first) j) (getD ids j 0)
 unfolding listed
@@ -199,9 +194,6 @@ encoded-formed ids h = encodes-formed (encoded-encodes ids h)
 
 pub encoded-place : (ids : List ℕ) → length ids < 32 → (j : ℕ) → j < length ids → Place (encoded ids) (walked (encoded ids) (listed (encoded ids) .first) j) (getD ids j 0)
 encoded-place ids h = encodes-place (encoded-encodes ids h)
-
-pub encoded-last : (ids : List ℕ) → length ids < 32 → entryAt (encoded ids) (walked (encoded ids) (listed (encoded ids) .first) (length ids)) .ok ≡ false
-encoded-last ids h = encodes-last (encoded-encodes ids h)
 
 -- where they stand: the first at place 2, each four bytes behind the one before
 walks-short : {d : List ℕ} {p : ℕ} (ids : List ℕ) → At d p (shortEntries ids) → (j : ℕ) → j ≤ length ids → walked d p j ≡ p + 4 * j

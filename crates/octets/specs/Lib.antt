@@ -4,3 +4,5 @@ pub mod Xor
 pub mod Tests
 pub mod Filled
 pub mod Same
+pub mod ByteLists
+pub mod Writes

@@ -1,6 +1,6 @@
 -- Laws of `same`: it is equality of lists, and it goes byte by byte. Assumes nothing.
-use mathlib.Core.Path.{_≡_, refl, ap₂, _∙_}
-use mathlib.Core.Bool.{Bool, true, false, _&&_, and-true, and-assoc}
+use mathlib.Core.Path.{_≡_, refl, ap₂}
+use mathlib.Core.Bool.{Bool, true, false, _&&_, and-true}
 use mathlib.Core.List.{List, [], _∷_}
 use Prim.Native.Nat.{ℕ, _+_, _<_, _≤_}
 use native.Mathlib.Numerals.{add-one}
@@ -18,7 +18,7 @@ same-refl (x ∷ s) = rw (eq-eqb x x refl) (same-refl s)
 pub same-of : (s t : List ℕ) → s ≡ t → same s t ≡ true
 same-of s t e = rw e (same-refl t)
 
-split-and : (a b : Bool) → (a && b) ≡ true → (a ≡ true) × (b ≡ true)
+pub split-and : (a b : Bool) → (a && b) ≡ true → (a ≡ true) × (b ≡ true)
 split-and true b e = (refl, e)
 split-and false b e = absurd (let z : _≡_ {A = ℕ} 0 1 = cc in omega arith)
 

@@ -10,6 +10,8 @@ use borrow.Author.Tests.{eqb-true, ltb-true, eq-eqb, ne-eqb, lt-ltb}
 use lib.Dec.{eqb}
 use lib.ListN.{length, getD, take, drop, replicate, length-append, length-replicate, length-drop}
 use lib.Seq.{length-take-le, split-at, getD-append-add, getD-at, getD-drop, ext-getD}
+use Rattle.octets.specs.Bytes.{Bytes}
+use Rattle.octets.specs.ByteLists.{cons-bytes, append-bytes, zeros-bytes}
 use Rattle.padding.specs.Method2.{blocksFor, zeroBytes, padded, textEnd, end, rightly, unpadded}
 use Rattle.padding.specs.declared.Unpadded.{Unpadded}
 use Rattle.padding.specs.declared.Unpadded.the-variants.{Text, Malformed}
@@ -23,6 +25,12 @@ fewest t = omega arith
 
 pub no-fewer : (t z k : ℕ) → t + 1 + z ≡ 16 * k → zeroBytes t ≤ z
 no-fewer t z k e = omega arith
+
+pub padded-bytes : (s : List ℕ) → Bytes s → Bytes (padded s)
+unfolding padded
+padded-bytes s h =
+    let z : List ℕ = replicate (zeroBytes (length s)) 0 in
+    append-bytes s (0x80 ∷ z) h (cons-bytes 0x80 z (omega arith) (zeros-bytes (zeroBytes (length s))))
 
 pub length-padded : (s : List ℕ) → length (padded s) ≡ 16 * blocksFor (length s)
 unfolding padded

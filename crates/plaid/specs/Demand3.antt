@@ -1,14 +1,14 @@
 -- Demand 3 from the load on: every list of commands on the card that a successful load returned. Assumes nothing.
-use mathlib.Core.Path.{_≡_, refl, sym, ap, _∙_}
+use mathlib.Core.Path.{_≡_, refl, ap, _∙_}
 use mathlib.Core.Bool.{Bool, true, false, cond}
-use mathlib.Core.List.{List, [], _∷_, _++_, map}
+use mathlib.Core.List.{List, _∷_, _++_, map}
 use Prim.Native.Nat.{ℕ, _<_}
 use native.Mathlib.Nat.{le-refl}
 use lib.Dec.{eqb}
 use lib.ListN.{length, getD, take}
 use borrow.Author.Tests.{eqb-true}
 use Rattle.work.specs.Steps.{workSum}
-use Rattle.plaid_types.specs.Cards.{noSession, withSession}
+use Rattle.plaid_types.specs.Cards.{noSession}
 use Rattle.plaid_types.specs.declared.KeySet.{KeySet}
 use Rattle.plaid_types.specs.declared.Session.{Session}
 use Rattle.plaid_types.specs.declared.Card.{Card}
@@ -16,7 +16,7 @@ use Rattle.plaid_types.specs.declared.Outcome.{Outcome}
 use Rattle.load.specs.Load.{refusal, loadedCard, blankCard, loaded}
 use Rattle.load.specs.Laws.{pastSet, IsLoaded, is-loaded, load-made}
 use Rattle.load.specs.declared.Loaded.{Loaded}
-use Rattle.card.specs.Lists.{Call, run, sessionAfter, outcomeOf, stepsOf, shapeOf, formulasOf, Agree, AllAlike, Indistinct}
+use Rattle.card.specs.Lists.{Call, run, sessionAfter, stepsOf, shapeOf, formulasOf, Agree, AllAlike, Indistinct}
 use Rattle.card.specs.Demand3.{Sound, list-formulas, place, call-sum, lists-alike, lists-indistinct}
 use Rattle.plaid.specs.Interface.{loadOf}
 use Rattle.plaid.specs.declared.Given.{Given}

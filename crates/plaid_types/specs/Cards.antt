@@ -1,11 +1,9 @@
 -- Document 01, "The card": the session, and what a command that is not declined means.
 use mathlib.Core.Bool.{false}
-use mathlib.Core.List.{List, []}
+use mathlib.Core.List.{List}
 use Prim.Native.Nat.{ℕ}
 use lib.ListN.{replicate}
 use Rattle.work.specs.Steps.{Step}
-use Rattle.plaid_types.specs.declared.KeySetId.{KeySetId}
-use Rattle.plaid_types.specs.declared.OpModeId.{OpModeId}
 use Rattle.plaid_types.specs.declared.KeySetSlot.{KeySetSlot}
 use Rattle.plaid_types.specs.declared.ModeSlot.{ModeSlot}
 use Rattle.plaid_types.specs.declared.Session.{Session}

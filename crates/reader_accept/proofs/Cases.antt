@@ -9,7 +9,8 @@ use Rattle.octets.specs.Lists.{over}
 use Rattle.reader_accept.specs.Accept.{decipheredText, authenticated, recordLength, knownLength, acceptNumber, acceptedOf, workAfter}
 use Rattle.reader_accept.specs.Laws.{known, length-text}
 use Rattle.reader_accept.specs.declared.Accepted.{Accepted}
-use Rattle.reader_accept.proofs.Writes.{front, over-again}
+use Rattle.octets.specs.Writes.{take-over}
+use Rattle.reader_accept.proofs.Writes.{over-again}
 use Rattle.reader_accept.proofs.Tests.{none-refused, some-accepted}
 
 number-18 : (n room : ℕ) (ok : Bool) → knownLength n ≡ false → acceptNumber n room ok ≡ 18
@@ -49,7 +50,7 @@ module _ (hash div response work : List ℕ) where
     judged-is : {e : List ℕ} {r : ℕ} → e ≡ over work 0 (decipheredText hash response) →
         r ≡ cond (authenticated (take (length response) e) div) (recordLength (take (length response) e)) 0 →
         r ≡ cond (authenticated (decipheredText hash response) div) (recordLength (decipheredText hash response)) 0
-    judged-is q j = rw (ap (take (length response)) q ∙ front work (decipheredText hash response) (length response) long) at j
+    judged-is q j = rw (ap (take (length response)) q ∙ take-over work (decipheredText hash response) (length response) long) at j
 
     module _ (l : length response ≤ length work) {e : List ℕ} {r : ℕ} (q : e ≡ over work 0 (decipheredText hash response))
         (j : r ≡ cond (authenticated (take (length response) e) div) (recordLength (take (length response) e)) 0) where

@@ -5,8 +5,9 @@ use Prim.Native.Nat.{ℕ, zero, suc, _+_, _/_, _%_, _≤_}
 use native.Mathlib.Omega.{arith}
 use native.Mathlib.Nat.{le-of-suc-le-suc, not-suc-le-zero}
 use lib.ListN.{length, take, drop, replicate}
-use lib.Seq.{take-at, drop-at}
+use lib.Seq.{drop-at}
 use Rattle.octets.specs.Lists.{over}
+use Rattle.octets.specs.Writes.{take-over}
 use Rattle.rounds.specs.InvCipher.{invCipher}
 use Rattle.aes.specs.KeyExpansion.{roundKeys}
 use Rattle.aes.specs.Aes.{invAes}
@@ -14,11 +15,6 @@ use Rattle.cbc.specs.Cbc.{decryptedWhole}
 use Rattle.cbc.specs.Laws.{decrypted-all}
 use Rattle.reader_accept.specs.Accept.{zeros, decipheredText}
 use Rattle.reader_accept.specs.Laws.{length-text}
-
--- what is written, and what stands behind it
-pub front : (d s : List ℕ) (n : ℕ) → length s ≡ n → take n (over d 0 s) ≡ s
-unfolding over
-front d s n l = take-at s (drop (0 + length s) d) n l
 
 pub behind : (d s : List ℕ) (n : ℕ) → length s ≡ n → drop n (over d 0 s) ≡ drop n d
 unfolding over
@@ -47,7 +43,7 @@ deciphered-writes hash response work {w} {e} {x} m qw q r =
     let n : ℕ = length response in
     let t : x ≡ decipheredText hash response =
     r
-    ∙ ap₂ (λ (k : List (List ℕ)) (s : List ℕ). decryptedWhole (invCipher 10 k) zeros s) qw (ap (take n) q ∙ front work response n refl)
+    ∙ ap₂ (λ (k : List (List ℕ)) (s : List ℕ). decryptedWhole (invCipher 10 k) zeros s) qw (ap (take n) q ∙ take-over work response n refl)
     ∙ decrypted-all (invAes 4 hash) (n / 16) zeros response (omega arith) in
     let z : n ≡ 0 + length (decipheredText hash response) = omega (arith, length-text hash response m) in
     ap₂ (λ (a b : List ℕ). a ++ b) t (ap (drop n) q ∙ behind work response n refl ∙ ap (λ (k : ℕ). drop k work) z)

@@ -2,26 +2,14 @@
 use mathlib.Core.Path.{_≡_, refl, ap, _∙_}
 use mathlib.Core.Bool.{Bool, true, false, _||_}
 use mathlib.Core.List.{List}
-use Prim.Native.Nat.{ℕ, zero, suc, _*_, _/_, _%_, _≤_}
+use Prim.Native.Nat.{ℕ, _/_, _%_, _≤_}
 use native.Mathlib.Omega.{arith}
 use borrow.Author.Tests.{eqb-true}
 use lib.Dec.{eqb}
-use lib.ListN.{length, drop, length-append}
-use Rattle.octets.specs.Lists.{part}
+use lib.ListN.{length}
 use Rattle.aes.specs.Aes.{invAes}
-use Rattle.cbc.specs.Cbc.{_⊕_, decrypted}
+use Rattle.cbc.specs.Lengths.{length-decrypted}
 use Rattle.reader_accept.specs.Accept.{zeros, decipheredText, knownLength}
-
-length-sum : (a b : List ℕ) → length (a ⊕ b) ≡ 16
-unfolding _⊕_
-length-sum a b = refl
-
-length-decrypted : (inv : List ℕ → List ℕ) (n : ℕ) (iv s : List ℕ) → length (decrypted inv iv n s) ≡ 16 * n
-unfolding decrypted
-length-decrypted inv zero iv s = refl
-length-decrypted inv (suc n) iv s =
-    let c : List ℕ = part s 0 16 in
-    length-append (inv c ⊕ iv) (decrypted inv c n (drop 16 s)) ∙ omega (arith, length-sum (inv c) iv, length-decrypted inv n c (drop 16 s))
 
 -- the lengths of a response are whole blocks, and at most 96
 pub record Known (n : ℕ) : Type 0 where

@@ -1,7 +1,7 @@
 -- What a card replies is accepted, and the returned part is the record. Assumes nothing.
 use mathlib.Core.Path.{_≡_, refl, ap, _∙_}
 use mathlib.Core.Bool.{Bool, true, false, cond}
-use mathlib.Core.List.{List, [], _∷_, _++_, append-assoc}
+use mathlib.Core.List.{List, _∷_, _++_, append-assoc}
 use Prim.Native.Nat.{ℕ, zero, suc, _+_, _-_, _*_, _/_, _≤_}
 use native.Mathlib.Omega.{arith}
 use borrow.Author.Tests.{le-ltb, le-leb}
@@ -10,36 +10,20 @@ use lib.Seq.{take-at, drop-append-le, drop-at}
 use Rattle.octets.specs.Bytes.{Bytes, Block}
 use Rattle.octets.specs.Same.{same-refl}
 use Rattle.octets.specs.Lists.{part, over}
+use Rattle.octets.specs.ByteLists.{append-bytes, zeros-bytes}
 use Rattle.aes.specs.Aes.{aes, invAes}
+use Rattle.aes.specs.RoundTrip.{length-aes}
 use Rattle.padding.specs.Method2.{blocksFor, zeroBytes, padded, unpadded, rightly}
-use Rattle.padding.specs.Laws.{length-padded, unpadded-padded}
+use Rattle.padding.specs.Laws.{length-padded, unpadded-padded, padded-bytes}
 use Rattle.padding.specs.declared.Unpadded.the-variants.{Text, Malformed}
 use Rattle.cbc.specs.Cbc.{encrypted, decrypted}
-use Rattle.cbc.specs.Aes.{aes-cipher, decrypted-encrypted-aes}
-use Rattle.cbc.specs.Laws.{length-encrypted}
+use Rattle.cbc.specs.Aes.{decrypted-encrypted-aes}
+use Rattle.cbc.specs.Lengths.{length-encrypted}
 use Rattle.reader_accept.specs.Accept.{zeros, decipheredText, textLength, rightBody, authenticated, recordLength, knownLength, acceptNumber, acceptedOf, workAfter, recordPart}
 
 -- "the reply is record, DivData and padding", enciphered by CBC under KeysHash: the answer of a card that accepted
 abbrev pub cardReply : List ℕ → List ℕ → List ℕ → List ℕ
 cardReply hash rec div = encrypted (aes 4 hash) zeros (blocksFor (length rec + 16)) (padded (rec ++ div))
-
-append-bytes : (a b : List ℕ) → Bytes a → Bytes b → Bytes (a ++ b)
-append-bytes [] b ha hb i = hb i
-append-bytes (x ∷ a) b ha hb zero = ha 0
-append-bytes (x ∷ a) b ha hb (suc i) = append-bytes a b (λ j. ha (suc j)) hb i
-
-zeros-bytes : (n : ℕ) → Bytes (replicate n 0)
-zeros-bytes zero i = omega arith
-zeros-bytes (suc n) zero = omega arith
-zeros-bytes (suc n) (suc i) = zeros-bytes n i
-
-filler-bytes : (n : ℕ) → Bytes (0x80 ∷ replicate n 0)
-filler-bytes n zero = omega arith
-filler-bytes n (suc i) = zeros-bytes n i
-
-padded-bytes : (s : List ℕ) → Bytes s → Bytes (padded s)
-unfolding padded
-padded-bytes s hs = append-bytes s (0x80 ∷ replicate (zeroBytes (length s)) 0) hs (filler-bytes (zeroBytes (length s)))
 
 -- 17 to 80 bytes take 2 to 6 blocks
 known-at : (b : ℕ) → b ≤ 4 → knownLength (16 * b + 32) ≡ true
@@ -113,7 +97,7 @@ module _ (hash rec div work : List ℕ) (hh : Bytes hash) (hr : Bytes rec) (hd :
 
   length-reply : length (cardReply hash rec div) ≡ 16 * blocks
   unfolding blocks
-  length-reply = length-encrypted (aes 4 hash) (invAes 4 hash) (aes-cipher 4 hash hh) zeros (padded (rec ++ div)) (zeros-bytes 16) text-bytes blocks (omega (arith, text-blocks))
+  length-reply = length-encrypted (aes 4 hash) (length-aes 4 hash) blocks zeros (padded (rec ++ div))
 
   reply-text : decipheredText hash (cardReply hash rec div) ≡ padded (rec ++ div)
   unfolding decipheredText blocks

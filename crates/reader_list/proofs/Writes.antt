@@ -1,29 +1,16 @@
 -- Writes one behind the other, as one: those of the entries, and those of the command. Assumes nothing.
-use mathlib.Core.Path.{_≡_, refl, sym, ap, ap₂, _∙_}
-use mathlib.Core.List.{List, [], _∷_, _++_, append-assoc}
+use mathlib.Core.Path.{_≡_, refl, sym, ap, _∙_}
+use mathlib.Core.List.{List, [], _∷_, _++_}
 use Prim.Native.Nat.{ℕ, _+_, _*_, _/_, _%_, _<_, _≤_}
 use native.Mathlib.Numerals.{add-one}
 use native.Mathlib.Omega.{arith}
-use lib.ListN.{length, getD, take, drop, length-append}
-use lib.Seq.{length-take-le, take-at, take-suc, drop-append-add, drop-drop}
+use lib.ListN.{length, getD, take}
+use lib.Seq.{length-take-le, take-suc}
 use Rattle.octets.specs.Lists.{over}
+use Rattle.octets.specs.Writes.{over-next}
 use Rattle.list.specs.Encoding.{shortEntries, encoded}
 use Rattle.list.specs.Meaning.{length-short, length-encoded}
 use Rattle.reader_list.specs.List.{listCommand}
-
--- s is written over d, and t behind it
-over-next : (d s t : List ℕ) (at : ℕ) {bt : ℕ} {e e′ : List ℕ} → at + length s ≡ bt → at ≤ length d → e ≡ over d at s → e′ ≡ over e bt t → e′ ≡ over d at (s ++ t)
-unfolding over
-over-next d s t at {bt} l k q r =
-    let p : List ℕ = take at d ++ s in
-    let rest : List ℕ = drop (at + length s) d in
-    let m : length p ≡ bt = length-append (take at d) s ∙ ap (λ (n : ℕ). n + length s) (length-take-le at d k) ∙ l in
-    let n : at + length s + length t ≡ at + length (s ++ t) = omega (arith, length-append s t) in
-    r ∙ ap (λ (x : List ℕ). over x bt t) q
-    ∙ ap₂ (λ (x y : List ℕ). x ++ t ++ y)
-    (take-at p rest bt m)
-    (ap (λ (k : ℕ). drop (k + length t) (p ++ rest)) (sym m) ∙ drop-append-add p rest (length t) ∙ drop-drop (length t) (at + length s) d ∙ ap (λ (k : ℕ). drop k d) n)
-    ∙ ap (λ (x : List ℕ). x ++ drop (at + length (s ++ t)) d) (append-assoc (take at d) s t)
 
 -- the bytes of one entry
 abbrev entry : ℕ → List ℕ

@@ -1,7 +1,7 @@
 -- Laws of List: the length of its command, and that a card takes the command as an initial one whose data are the list. Assumes nothing.
-use mathlib.Core.Path.{_≡_, refl, ap, _∙_}
+use mathlib.Core.Path.{_≡_, ap, _∙_}
 use mathlib.Core.Bool.{true}
-use mathlib.Core.List.{List, [], _∷_, _++_}
+use mathlib.Core.List.{List, [], _∷_}
 use Prim.Native.Nat.{ℕ, zero, suc, _+_, _*_, _-_, _<_, _≤_}
 use native.Mathlib.Omega.{arith}
 use borrow.Author.Tests.{le-ltb}
@@ -9,9 +9,10 @@ use lib.ListN.{length, getD, length-append}
 use lib.Seq.{take-at, getD-append-seam}
 use Rattle.octets.specs.Bytes.{Bytes}
 use Rattle.octets.specs.Lists.{part}
+use Rattle.octets.specs.ByteLists.{append-bytes, zeros-bytes}
 use Rattle.list.specs.Encoding.{encoded}
 use Rattle.list.specs.Meaning.{length-encoded, encoded-bytes}
-use Rattle.frame.specs.Frame.{frameOf, claOf, insOf, p1Of, p2Of, lcOf, leOf, initialIns, whole, statusOf, dataOf}
+use Rattle.frame.specs.Frame.{frameOf, claOf, insOf, p1Of, p2Of, lcOf, initialIns, whole, statusOf, dataOf}
 use Rattle.frame.specs.Laws.{frame-byte, frame-last, whole-is}
 use Rattle.reader_list.specs.List.{listCommand}
 
@@ -24,15 +25,6 @@ length-command ids = omega (arith, length-append (encoded ids) (0 ∷ []), lengt
 status-by : (n : ℕ) (f : List ℕ) → 4 ≤ n → claOf f ≡ 0 → insOf f ≡ initialIns → p1Of f ≡ 0 → p2Of f ≡ 0 → whole n f ≡ true → statusOf n f ≡ 0x9000
 unfolding statusOf
 status-by n f h a b c d w = simp (le-ltb n 4 h, a, b, c, d, w)
-
-bytes-append : (s t : List ℕ) → Bytes s → Bytes t → Bytes (s ++ t)
-bytes-append [] t a b i = b i
-bytes-append (x ∷ s) t a b zero = a 0
-bytes-append (x ∷ s) t a b (suc i) = bytes-append s t (λ j. a (suc j)) b i
-
-bytes-last : Bytes (0 ∷ [])
-bytes-last zero = omega arith
-bytes-last (suc i) = omega arith
 
 -- what a card sees of a command that lists ids: bytes in a frame without fault, the INS of an initial command, and the list as its data
 pub record Taken (ids c : List ℕ) : Type 0 where
@@ -49,7 +41,7 @@ module _ (ids : List ℕ) (some-ids : 1 ≤ length ids) (most : length ids ≤ 1
   command-bytes f (suc (suc zero)) = omega arith
   command-bytes f (suc (suc (suc zero))) = omega arith
   command-bytes f (suc (suc (suc (suc zero)))) = omega (arith, length-encoded ids)
-  command-bytes f (suc (suc (suc (suc (suc i))))) = bytes-append (encoded ids) (0 ∷ []) (encoded-bytes ids (omega arith) f) bytes-last i
+  command-bytes f (suc (suc (suc (suc (suc i))))) = append-bytes (encoded ids) (0 ∷ []) (encoded-bytes ids (omega arith) f) (zeros-bytes 1) i
 
   command-last : getD (listCommand ids) (length (listCommand ids) - 1) 0 ≡ 0
   unfolding listCommand

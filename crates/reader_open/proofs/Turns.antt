@@ -1,6 +1,6 @@
 -- The turns and the ends of the two loops: the look for a zero byte, and the look for the first block that opens. Assumes nothing.
-use mathlib.Core.Path.{_≡_, refl, sym, ap, _∙_}
-use mathlib.Core.Bool.{Bool, cond, _&&_, not, and-true, and-assoc}
+use mathlib.Core.Path.{_≡_, sym, ap, _∙_}
+use mathlib.Core.Bool.{Bool, cond, _&&_, not, and-assoc}
 use mathlib.Core.List.{List}
 use Prim.Native.Nat.{ℕ, _+_, _<_, _≤_}
 use native.Mathlib.Numerals.{add-one}
@@ -25,9 +25,6 @@ zero-turn s i ok more all h m e =
     ∙ and-assoc ok (not (eqb (getD s i 0) 0)) (noZero (drop (i + 1) s))
     ∙ sym (ap (λ (b : Bool). ok && b) (zero-next s i h))
     ∙ e
-
-pub zero-done : (s : List ℕ) (i : ℕ) (ok all : Bool) → length s ≤ i → (ok && noZero (drop i s)) ≡ all → ok ≡ all
-zero-done s i ok all h e = sym (ap (λ (l : List ℕ). ok && noZero l) (drop-of-length-le s {i = i} h) ∙ and-true ok) ∙ e
 
 pub long-part : (l : List ℕ) (at n : ℕ) {r : List ℕ} → at + n ≤ length l → r ≡ part l at n → length r ≡ n
 long-part l at n h e = ap length e ∙ length-part l at n h

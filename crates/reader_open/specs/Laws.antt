@@ -1,7 +1,7 @@
 -- Laws of Open: the first block that opens wins, 15 is given exactly where none opens, and a block that opens has the encryption form of PKCS #1
 -- v1.5. Assumes nothing.
 use mathlib.Core.Path.{_≡_, refl, sym, ap, ap₂, subst, _∙_}
-use mathlib.Core.Bool.{Bool, true, false, cond, _&&_, _||_, not, and-eq-true-iff, true≢false}
+use mathlib.Core.Bool.{Bool, true, false, cond, _||_, not, and-eq-true-iff, true≢false}
 use mathlib.Core.List.{List, [], _∷_, _++_, append-assoc}
 use Prim.Native.Nat.{ℕ, zero, suc, _+_, _*_, _<_, _≤_}
 use native.Mathlib.Nat.{not-suc-le-zero, le-of-suc-le-suc, add-zero, zero-add, suc-add, add-suc}
@@ -14,8 +14,7 @@ use Rattle.octets.specs.Lists.{part, length-part}
 use Rattle.frame.specs.Declines.{noZero}
 use Rattle.load.specs.Load.{miscounted}
 use Rattle.plaid_types.specs.declared.KeySetId.{KeySetId}
-use Rattle.reader_open.specs.declared.Opened.{Opened}
-use Rattle.reader_open.specs.Open.{formed, textOf, agrees, opensAs, blockAt, firstOpen, winner, openNumber, noId, openedAt, opened}
+use Rattle.reader_open.specs.Open.{formed, textOf, opensAs, blockAt, firstOpen, winner, openNumber, noId, opened}
 
 -- whether the block of the entry at place i of l opens; the blocks are counted from j
 abbrev opensAt : List ℕ → ℕ → List KeySetId → ℕ → Bool

@@ -5,10 +5,11 @@ use mathlib.Core.List.{List, [], _∷_, _++_, append-assoc, append-nil}
 use Prim.Native.Nat.{ℕ, _+_, _*_, _/_, _%_}
 use native.Mathlib.Omega.{arith}
 use lib.ListN.{length, take, drop, length-append, drop-of-length-le}
-use lib.Seq.{take-at, drop-append-add, drop-drop}
+use lib.Seq.{drop-drop}
 use borrow.Author.Tests.{le-leb}
 use borrow.Rule.Slice.PartMut.{putMid}
 use Rattle.octets.specs.Lists.{over, length-over}
+use Rattle.octets.specs.Writes.{take-over, over-behind}
 use Rattle.rounds.specs.Cipher.{cipher}
 use Rattle.aes.specs.KeyExpansion.{roundKeys}
 use Rattle.aes.specs.Aes.{aes}
@@ -18,17 +19,6 @@ use Rattle.cbc.specs.Cbc.{encryptedWhole}
 use Rattle.cbc.specs.Laws.{encrypted-all}
 use Rattle.reader_seal.specs.Seal.{zeros, str2, sealedBlocks, lcOf, sealedData, finalCommand}
 use Rattle.reader_seal.specs.Laws.{length-str2}
-
--- s is written over d from its start, and t behind it
-pub over-behind : (d s t : List ℕ) {n : ℕ} {e e′ : List ℕ} → length s ≡ n → e ≡ over d 0 s → e′ ≡ over e n t → e′ ≡ over d 0 (s ++ t)
-unfolding over
-over-behind d s t {n} l q r =
-    let rest : List ℕ = drop (0 + length s) d in
-    let m : 0 + length s + length t ≡ 0 + length (s ++ t) = omega (arith, length-append s t) in
-    r
-    ∙ ap (λ (x : List ℕ). over x n t) q
-    ∙ ap₂ (λ (x y : List ℕ). x ++ t ++ y) (take-at s rest n l)
-    (ap (λ (k : ℕ). drop (k + length t) (s ++ rest)) (sym l) ∙ drop-append-add s rest (length t) ∙ drop-drop (length t) (0 + length s) d ∙ ap (λ (k : ℕ). drop k d) m)
 
 -- what fills a buffer leaves nothing of it
 pub over-all : (d s : List ℕ) → length d ≡ length s → over d 0 s ≡ s
@@ -61,17 +51,13 @@ str2-writes mode rnd2 payload hash d lr q₁ q₂ q₃ q₄ =
     over-behind d (number ++ rnd2 ++ payload) hash (omega (arith, length-append rnd2 payload)) w₃ q₄
     ∙ ap (over d 0) (append-assoc (number ++ rnd2) payload hash ∙ append-assoc number rnd2 (payload ++ hash))
 
-pub front : (b s : List ℕ) (t : ℕ) → length s ≡ t → take t (over b 0 s) ≡ s
-unfolding over
-front b s t l = take-at s (drop (0 + length s) b) t l
-
 -- a text in a buffer of its blocks, padded
 pub padded-over : (b s : List ℕ) (t : ℕ) → length s ≡ t → length b ≡ 16 * blocksFor t → padBuffer (over b 0 s) t ≡ padded s
 unfolding padBuffer
 padded-over b s t ls lb =
     let d : List ℕ = over b 0 s in
     let ld : length d ≡ 16 * blocksFor t = length-over b 0 s (omega arith) ∙ lb in
-    rw (le-leb (16 * blocksFor t) (length d) (omega arith), front b s t ls)
+    rw (le-leb (16 * blocksFor t) (length d) (omega arith), take-over b s t ls)
     (over-all d (padded s) (omega (arith, length-padded s, ap blocksFor ls)))
 
 pub data-writes :

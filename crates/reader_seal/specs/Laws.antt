@@ -1,27 +1,16 @@
 -- Lengths of Seal's parts and command, Lc's range, and that who has the diversified key gets STR2 back. Assumes nothing.
 use mathlib.Core.Path.{_≡_, refl, ap, _∙_}
 use mathlib.Core.List.{List, [], _∷_, _++_}
-use Prim.Native.Nat.{ℕ, zero, suc, _+_, _*_, _≤_}
+use Prim.Native.Nat.{ℕ, _+_, _≤_}
 use native.Mathlib.Omega.{arith}
-use lib.ListN.{length, drop, length-append}
-use Rattle.octets.specs.Lists.{part, length-part}
-use Rattle.rounds.specs.Cipher.{cipher, lastRound}
+use lib.ListN.{length, length-append}
+use Rattle.octets.specs.Lists.{length-part}
 use Rattle.aes.specs.Aes.{aes}
+use Rattle.aes.specs.RoundTrip.{length-aes}
 use Rattle.sha256.specs.Hash.{sha256, digestBytes}
 use Rattle.padding.specs.Method2.{padded}
-use Rattle.cbc.specs.Cbc.{_⊕_, encrypted}
+use Rattle.cbc.specs.Lengths.{length-encrypted}
 use Rattle.reader_seal.specs.Seal.{zeros, keysHashOf, diversifiedBy, str2, sealedBlocks, lcOf, sealedData, finalCommand, sealCommand}
-
-length-aes : (key s : List ℕ) → length (aes 4 key s) ≡ 16
-unfolding cipher lastRound
-length-aes key s = refl
-
-length-encrypted : (key : List ℕ) (n : ℕ) (iv s : List ℕ) → length (encrypted (aes 4 key) iv n s) ≡ 16 * n
-unfolding encrypted
-length-encrypted key zero iv s = refl
-length-encrypted key (suc n) iv s =
-    let c : List ℕ = aes 4 key (part s 0 16 ⊕ iv) in
-    length-append c (encrypted (aes 4 key) c n (drop 16 s)) ∙ omega (arith, length-aes key (part s 0 16 ⊕ iv), length-encrypted key n c (drop 16 s))
 
 length-sha256 : (m : List ℕ) → length (sha256 m) ≡ 32
 unfolding sha256 digestBytes
@@ -37,7 +26,7 @@ length-str2 mode rnd2 payload hash lr lh = omega (arith, length-append rnd2 (pay
 
 pub length-sealedData : (key : List ℕ) (mode : ℕ) (rnd2 payload hash : List ℕ) → length (sealedData key mode rnd2 payload hash) ≡ lcOf (length payload)
 unfolding sealedData
-length-sealedData key mode rnd2 payload hash = length-encrypted key (sealedBlocks (length payload)) zeros (padded (str2 mode rnd2 payload hash))
+length-sealedData key mode rnd2 payload hash = length-encrypted (aes 4 key) (length-aes 4 key) (sealedBlocks (length payload)) zeros (padded (str2 mode rnd2 payload hash))
 
 pub length-command : (lc : ℕ) (d : List ℕ) → length (finalCommand lc d) ≡ length d + 6
 unfolding finalCommand

@@ -8,45 +8,19 @@ use lib.ListN.{length, getD, take, replicate}
 use lib.Seq.{take-at}
 use Rattle.octets.specs.Bytes.{Bytes, Block}
 use Rattle.octets.specs.Lists.{part}
+use Rattle.octets.specs.ByteLists.{cons-bytes, append-bytes, zeros-bytes, take-bytes}
 use Rattle.aes.specs.Aes.{invAes}
 use Rattle.aes.specs.RoundTrip.{aes-block}
 use Rattle.sha256.specs.Words.{wordBytes}
 use Rattle.sha256.specs.Hash.{sha256, digestBytes, stateAfter}
 use Rattle.sha256.specs.Parsing.{blocks}
 use Rattle.padding.specs.Method2.{blocksFor, zeroBytes, padded, unpadded}
-use Rattle.padding.specs.Laws.{length-padded, unpadded-padded}
+use Rattle.padding.specs.Laws.{length-padded, unpadded-padded, padded-bytes}
 use Rattle.padding.specs.declared.Unpadded.the-variants.{Text}
 use Rattle.cbc.specs.Cbc.{decrypted}
 use Rattle.cbc.specs.Aes.{decrypted-encrypted-aes}
 use Rattle.reader_seal.specs.Seal.{zeros, keysHashOf, diversifiedBy, str2, sealedBlocks, lcOf, sealedData, finalCommand, sealCommand}
 use Rattle.reader_seal.specs.Laws.{length-keysHash, length-str2, length-sealedData}
-
--- lists of bytes
-cons-bytes : (x : ℕ) (s : List ℕ) → x < 256 → Bytes s → Bytes (x ∷ s)
-cons-bytes x s h hs zero = h
-cons-bytes x s h hs (suc i) = hs i
-
-append-bytes : (a b : List ℕ) → Bytes a → Bytes b → Bytes (a ++ b)
-append-bytes [] b ha hb i = hb i
-append-bytes (x ∷ a) b ha hb zero = ha 0
-append-bytes (x ∷ a) b ha hb (suc i) = append-bytes a b (λ j. ha (suc j)) hb i
-
-zeros-bytes : (n : ℕ) → Bytes (replicate n 0)
-zeros-bytes zero i = omega arith
-zeros-bytes (suc n) zero = omega arith
-zeros-bytes (suc n) (suc i) = zeros-bytes n i
-
-take-bytes : (n : ℕ) (s : List ℕ) → Bytes s → Bytes (take n s)
-take-bytes zero s b i = omega arith
-take-bytes (suc n) [] b i = omega arith
-take-bytes (suc n) (x ∷ s) b zero = b 0
-take-bytes (suc n) (x ∷ s) b (suc i) = take-bytes n s (λ j. b (suc j)) i
-
-padded-bytes : (s : List ℕ) → Bytes s → Bytes (padded s)
-unfolding padded
-padded-bytes s hs =
-    let z : List ℕ = replicate (zeroBytes (length s)) 0 in
-    append-bytes s (0x80 ∷ z) hs (cons-bytes 0x80 z (omega arith) (zeros-bytes (zeroBytes (length s))))
 
 word-bytes : (x : ℕ) → Bytes (wordBytes x)
 word-bytes x zero = mod-lt (x / 2 ^ 24) (omega arith)

@@ -1,8 +1,8 @@
 -- INVCIPHER undoes CIPHER and CIPHER undoes INVCIPHER, for every number of rounds, every list of round keys and every block. Assumes nothing.
-use mathlib.Core.Path.{_≡_, refl, sym, ap, _∙_}
+use mathlib.Core.Path.{_≡_, sym, ap, _∙_}
 use mathlib.Core.List.{List, []}
 use Prim.Native.Nat.{ℕ, zero, suc, _-_, _<_}
-use lib.ListN.{length, getD}
+use lib.ListN.{getD}
 use lib.Bits.{bitXor}
 use Rattle.octets.specs.Bytes.{Bytes, Block}
 use Rattle.octets.specs.Xor.{xor-cancel}
@@ -11,7 +11,7 @@ use Rattle.field_laws.specs.Undo.{inv-mix, mix-inv}
 use Rattle.sbox.specs.SubBytes.{sbox}
 use Rattle.sbox.specs.InvSubBytes.{invSbox}
 use Rattle.sbox.specs.Rule.{inv-of-sbox, sbox-of-inv}
-use Rattle.rounds.specs.State.{cell, state}
+use Rattle.rounds.specs.State.{cell}
 use Rattle.rounds.specs.Cipher.{subBytes, shiftRows, columnsTimes, mixColumns, addRoundKey, round, rounds, lastRound, cipher}
 use Rattle.rounds.specs.InvCipher.{invSubBytes, invShiftRows, invMixColumns, invRound, invRounds, invLastRound, invCipher}
 use Rattle.rounds.specs.Blocks.{eta, same16, ext, each-undone, sub-block, inv-sub-block, shift-block, inv-shift-block, columns-block, key-block}

@@ -1,5 +1,4 @@
 -- FIPS 197, section 5.3.2: the table INVSBOX, the inverse of SBOX.
-use mathlib.Core.Path.{_≡_, refl}
 use Prim.Native.Nat.{ℕ, _+_, _%_}
 use lib.Bits.{bitXor}
 use Rattle.field.specs.Field.{inverse}

@@ -1,17 +1,15 @@
 -- The edges of document 01 that are marked P, as one list of tests and one theorem that all of them hold. Assumes nothing.
 use mathlib.Core.Path.{_≡_, refl, _∙_}
-use mathlib.Core.Bool.{Bool, true, false, _&&_, not}
-use mathlib.Core.List.{List, [], _∷_, _++_, map}
-use Prim.Native.Nat.{ℕ, _+_, _*_}
+use mathlib.Core.Bool.{Bool, true, not}
+use mathlib.Core.List.{List, [], _∷_, map}
+use Prim.Native.Nat.{ℕ, _+_}
 use lib.Dec.{T, eqb}
 use lib.ListN.{length, getD, replicate}
 use Rattle.octets.specs.Tests.{both}
-use Rattle.octets.specs.Lists.{part}
 use Rattle.padding.specs.Method2.{rightly, textEnd}
 use Rattle.work.specs.Steps.{comparison, encipherment, decipherment, counted}
 use Rattle.plaid_types.specs.Cards.{noSet, withSession}
 use Rattle.plaid_types.specs.declared.KeySet.{KeySet}
-use Rattle.plaid_types.specs.declared.Mode.{Mode}
 use Rattle.plaid_types.specs.declared.Card.{Card}
 use Rattle.load.specs.Load.{loadedCard, filled, replySize}
 use Rattle.list.specs.Ber.{lengthAt, entryAt, head, walked, listed}

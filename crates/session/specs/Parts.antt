@@ -1,21 +1,20 @@
 -- What the session promise is put together from: a call that is not declined, the block that opens, and the FAKey of a held set. Assumes nothing.
-use mathlib.Core.Path.{_≡_, refl, sym, ap, ap₂, _∙_}
-use mathlib.Core.Bool.{Bool, true, false, cond, _&&_, true≢false}
+use mathlib.Core.Path.{_≡_, refl, sym, ap, _∙_}
+use mathlib.Core.Bool.{Bool, true, false, cond, true≢false}
 use mathlib.Core.List.{List, [], _∷_, _++_, append-assoc}
-use Prim.Native.Nat.{ℕ, zero, suc, _+_, _*_, _/_, _%_, _<_, _≤_}
+use Prim.Native.Nat.{ℕ, zero, suc, _+_, _/_, _%_, _<_}
 use native.Mathlib.Nat.{not-suc-le-zero, le-of-suc-le-suc}
 use native.Mathlib.Omega.{arith}
 use lib.Dec.{eqb, ltb}
 use lib.ListN.{length, getD, length-append}
-use borrow.Author.Tests.{eqb-true, eq-eqb, ne-eqb, ltb-true, ltb-false, lt-ltb, le-ltb}
+use borrow.Author.Tests.{eqb-true, eq-eqb, ltb-true, ltb-false}
 use Rattle.octets.specs.Lists.{part}
-use Rattle.octets.specs.Bytes.{same}
-use Rattle.octets.specs.Same.{same-of}
+use Rattle.octets.specs.Same.{same-of, split-and}
 use Rattle.steps.specs.Made.{matched}
-use Rattle.frame.specs.Frame.{frameOf, insOf, statusOf, dataOf}
+use Rattle.frame.specs.Frame.{frameOf, statusOf}
 use Rattle.frame.specs.Declines.{padBytes, noZero, verdict}
 use Rattle.frame.specs.declared.Verdict.{Verdict}
-use Rattle.plaid_types.specs.Cards.{noSet, withSession, Reply}
+use Rattle.plaid_types.specs.Cards.{noSet, withSession}
 use Rattle.plaid_types.specs.declared.KeySetSlot.{KeySetSlot}
 use Rattle.plaid_types.specs.declared.KeySetId.{KeySetId}
 use Rattle.plaid_types.specs.declared.Card.{Card}
@@ -24,8 +23,8 @@ use Rattle.load.specs.Laws.{Stocked, setAt}
 use Rattle.initial.specs.Initial.{str1, blockOf}
 use Rattle.final_command.specs.Final.{keyOf}
 use Rattle.card.specs.Command.{replyTo, told, declined, verdictOn, outcome, answerBytes}
-use Rattle.reader_open.specs.Open.{formed, textOf, idOf, divOf, rnd1Of, rnd1Copy, agrees, opensAs, blockAt, winner}
-use Rattle.reader_open.specs.Laws.{opensEntry, Wins, Winner, won, lost, Encrypted, form-formed, form-text}
+use Rattle.reader_open.specs.Open.{textOf, idOf, divOf, rnd1Of, rnd1Copy, agrees, opensAs, winner}
+use Rattle.reader_open.specs.Laws.{opensEntry, Winner, won, lost, Encrypted, form-formed, form-text}
 use Rattle.session_initial.specs.Parts.{part-after, part-last}
 use Rattle.session_initial.specs.Held.{Holds}
 
@@ -125,10 +124,6 @@ unfolding keyOf
 key-at [] k other n h e f = absurd (not-suc-le-zero h)
 key-at (s ∷ ss) k other zero h e f = rw e
 key-at (s ∷ ss) k other (suc n) h e f = rw (f 0 (omega arith)) (key-at ss k other n (le-of-suc-le-suc h) e (λ m l. f (suc m) (omega arith)))
-
-split-and : (a b : Bool) → (a && b) ≡ true → (a ≡ true) × (b ≡ true)
-split-and true b e = (refl, e)
-split-and false b e = absurd (true≢false (sym e))
 
 module _ (c : Card) (g : Stocked c) (k n : ℕ) (w : Holds (c .sets) n k) where
   others-by : (m : ℕ) → m < n → (t : Bool) → matched true k (setAt c m .held) (setAt c m .id .0) ≡ t → t ≡ false

@@ -1,21 +1,21 @@
 -- The session promise of demand 2, from a loaded card to the record that Accept returns. Assumes nothing.
 use mathlib.Core.Path.{_≡_, refl, sym, ap, ap₂, _∙_, subst}
 use mathlib.Core.Bool.{Bool, true, false, cond, _||_, true≢false}
-use mathlib.Core.List.{List, [], _∷_, map}
-use Prim.Native.Nat.{ℕ, zero, suc, _+_, _*_, _<_, _≤_}
+use mathlib.Core.List.{List, map}
+use Prim.Native.Nat.{ℕ, zero, suc, _*_, _<_, _≤_}
 use native.Mathlib.Omega.{arith}
 use lib.Dec.{eqb, ltb}
-use lib.ListN.{length, getD, take, drop, length-map, length-drop, List·getD-map}
-use lib.Seq.{getD-drop, getD-take, length-take-le}
+use lib.ListN.{length, getD, length-map, List·getD-map}
+use lib.Seq.{getD-take, length-take-le}
 use borrow.Author.Tests.{eqb-true, ltb-false, eq-eqb, ne-eqb, le-ltb}
 use Rattle.octets.specs.Lists.{part, length-part}
 use Rattle.octets.specs.Bytes.{Bytes, Block}
-use Rattle.padding.specs.Method2.{blocksFor}
-use Rattle.frame.specs.Frame.{frameOf, insOf, statusOf, dataOf, initialIns, finalIns}
-use Rattle.frame.specs.Declines.{padBytes, noZero, verdict}
-use Rattle.frame.specs.Laws.{Passed, passed}
+use Rattle.octets.specs.ByteLists.{part-bytes}
+use Rattle.frame.specs.Frame.{frameOf, insOf, dataOf, initialIns, finalIns}
+use Rattle.frame.specs.Declines.{padBytes}
+use Rattle.frame.specs.Laws.{Passed, passed, length-pads}
 use Rattle.list.specs.Encoding.{encoded}
-use Rattle.plaid_types.specs.Cards.{noSet, noMode, withSession, Reply}
+use Rattle.plaid_types.specs.Cards.{noSet, withSession, Reply}
 use Rattle.plaid_types.specs.declared.KeySetId.{KeySetId}
 use Rattle.plaid_types.specs.declared.KeySetSlot.{KeySetSlot}
 use Rattle.plaid_types.specs.declared.Session.{Session}
@@ -37,7 +37,7 @@ use Rattle.reader_accept.specs.RoundTrip.{cardReply, reply-accepted, reply-reco
 use Rattle.session_initial.specs.Held.{held, firstHeld, first-held}
 use Rattle.session_initial.specs.Answered.{Answers, list-answered, list-slot}
 use Rattle.session_final.specs.SealFrame.{seal-status, seal-ins}
-use Rattle.session_final.specs.SealText.{SharedSession, sealed}
+use Rattle.session_final.specs.SealText.{SharedSession}
 use Rattle.session_final.specs.SealReply.{sealedSlot, sealedRecord, sealed-found, length-sealedRecord, seal-reply}
 use Rattle.session.specs.Parts.{goes-on, call-bytes, call-card, block-text, text-div, text-rnd1, block-opens, winner-is, key-held}
 
@@ -49,16 +49,6 @@ reply-initial c cmd fresh d i e = rw (i, e)
 reply-final : (c : Card) (cmd fresh : List ℕ) → insOf (frameOf cmd) ≡ finalIns → replyTo c cmd fresh ≡ finalReply c (dataOf cmd) fresh
 unfolding replyTo
 reply-final c cmd fresh i = rw i
-
-take-bytes : (n : ℕ) (s : List ℕ) → Bytes s → Bytes (take n s)
-take-bytes zero s b i = omega arith
-take-bytes (suc n) [] b i = omega arith
-take-bytes (suc n) (x ∷ s) b zero = b 0
-take-bytes (suc n) (x ∷ s) b (suc i) = take-bytes n s (λ k. b (suc k)) i
-
-part-bytes : (s : List ℕ) (p n : ℕ) → Bytes s → Bytes (part s p n)
-unfolding part
-part-bytes s p n b = take-bytes n (drop p s) (λ i. rw (getD-drop p s i 0) (b (p + i)))
 
 -- what List has shown that is not declined
 listing : (ids : List KeySetId) (n room : ℕ) → listNumber ids n room ≡ 0 → (1 ≤ n) × (n ≤ 16)
@@ -73,10 +63,6 @@ listing ids n room z = by (eqb n 0) (ltb 16 n) refl refl z
         nonzero : (m : ℕ) → eqb m 0 ≡ false → 1 ≤ m
         nonzero zero h = absurd (true≢false h)
         nonzero (suc m) h = omega arith
-
-length-pads : (fresh : List ℕ) → length fresh ≡ 253 → length (padBytes fresh) ≡ 203
-unfolding padBytes
-length-pads fresh e = omega (arith, length-drop 50 fresh)
 
 -- Open, where nothing is declined and the winner is known
 opened-at : (ids : List KeySetId) (n : ℕ) (blocks : List ℕ) (j : ℕ) → 1 ≤ n → n ≤ 16 → length blocks ≡ 256 * n → winner ids n blocks ≡ j → j < n →

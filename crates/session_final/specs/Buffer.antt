@@ -2,22 +2,18 @@
 use mathlib.Core.Path.{_≡_, sym, ap, _∙_}
 use mathlib.Core.List.{List, _∷_, _++_, append-assoc}
 use Prim.Native.Nat.{ℕ, _+_, _*_, _/_, _%_}
-use native.Mathlib.Nat.{zero-add}
 use native.Mathlib.Omega.{arith}
 use lib.ListN.{length, getD, take, drop, replicate, length-append}
 use lib.Seq.{take-at, drop-at}
 use Rattle.octets.specs.Lists.{part, over}
+use Rattle.octets.specs.Writes.{over-front, take-over}
 use Rattle.padding.specs.Method2.{zeroBytes, padded}
 use Rattle.reader_seal.specs.Seal.{str2}
-
-pub over-is : (b s : List ℕ) → over b 0 s ≡ s ++ drop (length s) b
-unfolding over
-over-is b s = ap (λ (n : ℕ). s ++ drop n b) (zero-add (length s))
 
 -- the text is the buffer's front
 pub over-part : (b s : List ℕ) (n : ℕ) → length s ≡ n → part (over b 0 s) 0 n ≡ s
 unfolding part
-over-part b s n e = ap (take n) (over-is b s) ∙ take-at s (drop (length s) b) n e
+over-part b s n e = take-over b s n e
 
 -- a buffer with the padded STR2 over its front: its first two bytes are the mode, and RND2 follows
 module _ (b : List ℕ) (mode : ℕ) (rnd2 payload hash : List ℕ) where
@@ -29,7 +25,7 @@ module _ (b : List ℕ) (mode : ℕ) (rnd2 payload hash : List ℕ) where
   text-is =
       let t : List ℕ = rnd2 ++ (payload ++ hash) in
       let r : List ℕ = drop (length (padded (str2 mode rnd2 payload hash))) b in
-      over-is b (padded (str2 mode rnd2 payload hash))
+      over-front b (padded (str2 mode rnd2 payload hash))
       ∙ ap (λ (x : List ℕ). mode / 256 ∷ mode % 256 ∷ x) (append-assoc t behind r ∙ append-assoc rnd2 (payload ++ hash) (behind ++ r))
 
   pub over-mode : getD (over b 0 (padded (str2 mode rnd2 payload hash))) 0 0 * 256 + getD (over b 0 (padded (str2 mode rnd2 payload hash))) 1 0 ≡ mode

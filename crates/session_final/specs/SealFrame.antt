@@ -12,7 +12,7 @@ use Rattle.octets.specs.Lists.{part}
 use Rattle.frame.specs.Frame.{frameOf, claOf, insOf, p1Of, p2Of, finalIns, whole, statusOf, dataOf}
 use Rattle.frame.specs.Laws.{frame-byte, frame-last, whole-is}
 use Rattle.reader_seal.specs.Seal.{keysHashOf, diversifiedBy, sealedBlocks, lcOf, sealedData, finalCommand, sealCommand}
-use Rattle.reader_seal.specs.Laws.{length-sealedData, length-command, lc-least, lc-most}
+use Rattle.reader_seal.specs.Laws.{length-sealedData, length-command, lc-least}
 
 -- a frame of a final command that has no fault gets 9000
 status-by : (n : ℕ) (f : List ℕ) → 4 ≤ n → claOf f ≡ 0 → insOf f ≡ finalIns → p1Of f ≡ 0 → p2Of f ≡ 0 → whole n f ≡ true → statusOf n f ≡ 0x9000
@@ -79,7 +79,3 @@ module _ (fa div rnd1 rnd2 : List ℕ) (mode : ℕ) (payload : List ℕ) where
 
   pub seal-data-blocks : length (dataOf (sealCommand fa div rnd1 rnd2 mode payload)) / 16 ≡ sealedBlocks (length payload)
   seal-data-blocks = omega (arith, seal-data-long)
-
-  -- and at most 240 bytes
-  pub seal-data-most : length payload ≤ 205 → length (dataOf (sealCommand fa div rnd1 rnd2 mode payload)) ≤ 240
-  seal-data-most h = omega (arith, seal-data-long, lc-most (length payload) h)

@@ -5,10 +5,11 @@ use mathlib.Core.List.{List, [], _∷_, _++_}
 use Prim.Native.Nat.{ℕ, zero, suc, _+_, _*_, _<_, _≤_}
 use native.Mathlib.Nat.{not-suc-le-zero}
 use native.Mathlib.Omega.{arith}
-use borrow.Author.Tests.{eqb-true, ltb-false}
+use borrow.Author.Tests.{eqb-true}
 use lib.Dec.{ltb}
 use lib.ListN.{length, getD, drop, replicate, length-append}
 use Rattle.octets.specs.Lists.{part, over, length-part}
+use Rattle.octets.specs.Writes.{over-front}
 use Rattle.aes.specs.Aes.{aes}
 use Rattle.padding.specs.Method2.{blocksFor, padded}
 use Rattle.padding.specs.Laws.{length-padded}
@@ -21,9 +22,8 @@ use Rattle.plaid_types.specs.declared.ModeSlot.{ModeSlot}
 use Rattle.plaid_types.specs.declared.Card.{Card}
 use Rattle.load.specs.Laws.{modeAt, GoodRecord, Stocked}
 use Rattle.final_command.specs.Final.{zeros, keysHash, firstMode, modeOf, acceptsFinal, replyKey, recordOf, sizeOf, replyText, replyBuffer, finalBytes, finalReply}
-use Rattle.final_command.specs.Laws.{size-loaded}
+use Rattle.final_command.specs.Laws.{size-loaded, least-is}
 use Rattle.reader_seal.specs.Seal.{keysHashOf}
-use Rattle.session_final.specs.Buffer.{over-is}
 use Rattle.session_final.specs.SealText.{SharedSession, sealed, seal-keysHash}
 use Rattle.session_final.specs.SealAccepted.{seal-slot, seal-accepted}
 
@@ -63,17 +63,13 @@ pub first-found : (v : ℕ) (ms : List ModeSlot) → firstMode 0 v ms < length m
 first-found v ms h = found-from v ms 0 (firstMode 0 v ms) (omega arith) h
 
 -- a record of at most 64 bytes is replied whole
-least-by : (a b : ℕ) (t : Bool) → ltb a b ≡ t → a ≤ b → cond t a b ≡ a
-least-by a b true e h = refl
-least-by a b false e h = omega (arith, ltb-false a b e)
-
 record-whole : (area : List ℕ) (m : ModeSlot) → m .len ≤ 64 → recordOf area m ≡ part area (m .start) (m .len)
 unfolding recordOf
-record-whole area m h = ap (part area (m .start)) (least-by (m .len) 64 (ltb (m .len) 64) refl h)
+record-whole area m h = ap (part area (m .start)) (least-is (m .len) 64 (ltb (m .len) 64) refl h)
 
 -- encrypting the blocks of a text in a buffer's front is encrypting the text
 encrypted-over : (ciph : List ℕ → List ℕ) (b s : List ℕ) (n : ℕ) → length s ≡ 16 * n → encrypted ciph zeros n (over b 0 s) ≡ encrypted ciph zeros n s
-encrypted-over ciph b s n e = ap (encrypted ciph zeros n) (over-is b s) ∙ encrypted-front ciph n zeros s (drop (length s) b) (omega arith)
+encrypted-over ciph b s n e = ap (encrypted ciph zeros n) (over-front b s) ∙ encrypted-front ciph n zeros s (drop (length s) b) (omega arith)
 
 -- the record of the mode that Seal took
 abbrev pub sealedSlot : Card → ℕ → ModeSlot

@@ -109,10 +109,6 @@ below-by k ss false l q = le-ltb (firstSlot 0 true k ss) 8 (omega (arith, slot-n
 pub slot-found : (c : Card) → Stocked c → (k : ℕ) → ltb (firstSlot 0 true k (c .sets)) 8 ≡ held c k
 slot-found c s k = below-by k (c .sets) (held c k) (s .sets-long) refl
 
--- and then at a slot that is held with that KeySetID
-pub slot-held : (c : Card) → Stocked c → (k : ℕ) → held c k ≡ true → Holds (c .sets) (firstSlot 0 true k (c .sets)) k
-slot-held c s k q = slot-holds k (c .sets) (s .sets-long) q
-
 -- the first of a list for which p holds: it is in the list, p holds for it, and for none before it
 pub record IsFirst (p : ℕ → Bool) (ids : List ℕ) (n : ℕ) : Type 0 where
   pub within : n < length ids

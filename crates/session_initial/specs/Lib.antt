@@ -1,5 +1,4 @@
 pub mod Parts
 pub mod Block
-pub mod Framed
 pub mod Held
 pub mod Answered

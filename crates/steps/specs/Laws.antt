@@ -2,9 +2,8 @@
 -- Assumes nothing.
 use mathlib.Core.Bool.{Bool, true, false, cond}
 use mathlib.Core.Path.{_≡_, refl, sym, ap, _∙_}
-use mathlib.Core.List.{List, [], _∷_}
-use Prim.Native.Nat.{ℕ, zero, suc, _+_, _-_, _<_, _≤_}
-use native.Mathlib.Nat.{add-zero}
+use mathlib.Core.List.{List, _∷_}
+use Prim.Native.Nat.{ℕ, zero, suc, _+_, _-_, _<_}
 use native.Mathlib.Numerals.{add-one}
 use native.Mathlib.Omega.{arith}
 use lib.Dec.{eqb}
@@ -13,14 +12,8 @@ use borrow.Author.Tests.{ne-eqb, eq-eqb, eqb-true}
 use Rattle.octets.specs.Lists.{table}
 use Rattle.sha256.specs.Parsing.{blocks}
 use Rattle.sha256.specs.PaddingLaws.{blocks-count}
-use Rattle.work.specs.Steps.{comparison, expansion, hashBlock, counted}
-use Rattle.steps.specs.Made.{expansionStep, hashStep, hashSteps, comparisonStep, kept}
-
-pub counted-expansion : (k : ℕ) (key : List ℕ) → counted k (expansionStep key ∷ []) ≡ cond (eqb expansion k) 1 0
-counted-expansion k key = add-zero (cond (eqb expansion k) 1 0)
-
-pub counted-comparison : (k : ℕ) (present : Bool) (v : ℕ) (held : Bool) (w : ℕ) → counted k (comparisonStep present v held w ∷ []) ≡ cond (eqb comparison k) 1 0
-counted-comparison k present v held w = add-zero (cond (eqb comparison k) 1 0)
+use Rattle.work.specs.Steps.{hashBlock, counted}
+use Rattle.steps.specs.Made.{hashStep, hashSteps, kept}
 
 times : (b : Bool) (n : ℕ) → cond b 1 0 + cond b n 0 ≡ cond b (suc n) 0
 times true n = omega arith
@@ -50,10 +43,6 @@ table-next f n i h =
 pub blocks-one : (m : List ℕ) → length m ≡ 32 → blocks m ≡ 1
 blocks-one m h = omega (arith, blocks-count m)
 
-pub hash-one : (m : List ℕ) → length m ≡ 32 → hashSteps m ≡ hashStep m 0 ∷ []
-unfolding hashSteps
-hash-one m h = ap (λ (n : ℕ). table (hashStep m) n 0) (blocks-one m h)
-
 -- A search over places below n has found `first`, or n where nothing yet; `rest` is what it finds from the next place on. A turn at place i
 kept-cases : (n first i rest : ℕ) (hit b : Bool) → eqb first n ≡ b → i < n → cond (eqb (kept n first i hit) n) rest (kept n first i hit) ≡ cond (eqb first n) (cond hit i rest) first
 kept-cases n first i rest true true e l = simp (e, ne-eqb i n (λ q. omega arith))
@@ -73,11 +62,3 @@ last-cases n first false e = refl
 
 pub kept-last : (n first : ℕ) → cond (eqb first n) n first ≡ first
 kept-last n first = last-cases n first (eqb first n) refl
-
-at-most-cases : (n first i : ℕ) (hit b : Bool) → first ≤ n → i < n → cond b (cond hit i n) first ≤ n
-at-most-cases n first i true true h l = omega arith
-at-most-cases n first i false true h l = omega arith
-at-most-cases n first i hit false h l = h
-
-pub kept-at-most : (n first i : ℕ) (hit : Bool) → first ≤ n → i < n → kept n first i hit ≤ n
-kept-at-most n first i hit h l = at-most-cases n first i hit (eqb first n) h l

@@ -1,9 +1,10 @@
 -- Laws of the work sum and the counts: what lists one behind the other give. Assumes nothing.
-use mathlib.Core.Bool.{cond}
+use mathlib.Core.Bool.{Bool, true, false, cond}
 use mathlib.Core.Path.{_≡_, refl, sym}
 use mathlib.Core.List.{List, [], _∷_, _++_}
-use Prim.Native.Nat.{ℕ, _+_}
+use Prim.Native.Nat.{ℕ, suc, _+_, _*_}
 use native.Mathlib.Nat.{zero-add, add-assoc}
+use native.Mathlib.Omega.{arith}
 use lib.Dec.{eqb}
 use Rattle.work.specs.Steps.{Step, bytesOf, mixed, mixedAll, sumFrom, counted}
 
@@ -18,3 +19,12 @@ sumFrom-append s (x ∷ xs) ys = sumFrom-append (mixedAll s (bytesOf x)) xs ys
 pub counted-append : (k : ℕ) (xs ys : List Step) → counted k (xs ++ ys) ≡ counted k xs + counted k ys
 counted-append k [] ys = sym (zero-add (counted k ys))
 counted-append k (x ∷ xs) ys = rw (counted-append k xs ys) (sym (add-assoc (cond (eqb (x .kind) k) 1 0) (counted k xs) (counted k ys)))
+
+-- the count of n steps of which each counts or none does
+pub times-none : (t : Bool) → 0 ≡ 0 * cond t 1 0
+times-none true = refl
+times-none false = refl
+
+pub times-more : (t : Bool) (n : ℕ) → cond t 1 0 + n * cond t 1 0 ≡ suc n * cond t 1 0
+times-more true n = omega arith
+times-more false n = omega arith

@@ -1,5 +1,5 @@
 -- `aes::decipher` meets its contract: what is left to do of the state is what was left at the start. Assumes nothing.
-use Prim.Native.Nat.{ℕ, suc, _-_, _≤_, _+_}
+use Prim.Native.Nat.{ℕ, suc, _-_, _≤_}
 use mathlib.Core.Path.{_≡_, refl, ap, _∙_, sym}
 use mathlib.Core.List.{List, []}
 use lib.ListN.{getD}

@@ -1,5 +1,5 @@
 -- `aes::expand` meets its contract: after i turns the rows up to i are the round keys, and x is x^i. Assumes nothing.
-use Prim.Native.Nat.{ℕ, suc, _-_, _≤_, _<_, _+_}
+use Prim.Native.Nat.{ℕ, _-_, _≤_, _<_, _+_}
 use mathlib.Core.Path.{_≡_, refl, ap, ap₂, _∙_, sym}
 use mathlib.Core.List.{List, []}
 use mathlib.Core.Logic.{⊎-elim}
@@ -10,7 +10,7 @@ use native.Mathlib.Omega.{arith}
 use native.Mathlib.Numerals.{add-one}
 use Rattle.octets.specs.Lists.{tabled}
 use Rattle.field.specs.Field.{xTimes}
-use Rattle.aes.specs.KeyExpansion.{power, keyExpansion, roundKey, roundKeys}
+use Rattle.aes.specs.KeyExpansion.{power, keyExpansion, roundKey}
 use Rattle.aes.specs.Rows.{nextKey, next-row, first-row}
 use borrow.Author.Needs.{needs}
 use Rattle.aes.proofs.expand.Statement.{statement}

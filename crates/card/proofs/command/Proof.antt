@@ -1,9 +1,8 @@
 -- `card::command` meets its contract: each way through it is a law of `Ways`. Assumes nothing.
 use mathlib.Core.Path.{_≡_, sym, ap, _∙_}
-use mathlib.Core.List.{List}
-use Prim.Native.Nat.{ℕ, _<_, _≤_}
+use Prim.Native.Nat.{_<_}
 use native.Mathlib.Omega.{arith}
-use lib.ListN.{length, getD, length-map}
+use lib.ListN.{length, length-map}
 use Rattle.frame.specs.Frame.{frameOf, lcOf, dataOf}
 use Rattle.frame.specs.Laws.{Passed, passed, frame-byte, command-long, data-long}
 use Rattle.frame.specs.declared.Verdict.{Verdict}

@@ -1,5 +1,4 @@
 -- `octets::also` meets its contract. Assumes nothing.
-use mathlib.Core.Bool.{_&&_}
 use borrow.Author.Needs.{needs}
 use Rattle.octets.proofs.also.Statement.{statement}
 use Rattle.octets.proofs.also.Tie as tie

@@ -1,8 +1,7 @@
 -- `octets::block_at` meets its contract: the bytes below i are the slice's. Assumes nothing.
-use Prim.Native.Nat.{ℕ, _+_, _-_, _<_}
+use Prim.Native.Nat.{_+_, _-_}
 use mathlib.Core.Path.{_≡_, refl, sym, _∙_}
 use lib.ListN.{length, getD}
-use native.Mathlib.Nat.{zero-add}
 use native.Mathlib.Omega.{arith}
 use Rattle.octets.specs.Lists.{part, tabled, length-part, getD-part}
 use Rattle.octets.specs.Filled.{Filled, filled-none, filled-more, filled-all}

@@ -1,8 +1,8 @@
 -- `octets::equal` meets its contract: r, and what the bytes from i on say, is what all say. Assumes nothing.
-use Prim.Native.Nat.{ℕ, _+_, _-_, _≤_}
+use Prim.Native.Nat.{_+_, _-_, _≤_}
 use mathlib.Core.Path.{_≡_, refl, sym, ap, _∙_}
-use mathlib.Core.Bool.{Bool, true, _&&_, and-assoc}
-use lib.ListN.{length, getD, drop}
+use mathlib.Core.Bool.{Bool, _&&_, and-assoc}
+use lib.ListN.{length, drop}
 use native.Mathlib.Omega.{arith}
 use Rattle.octets.specs.Bytes.{same}
 use Rattle.octets.specs.Same.{same-drop, same-done}

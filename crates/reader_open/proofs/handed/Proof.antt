@@ -1,7 +1,5 @@
 -- `handed` meets its contract: the parts are those of the definition. Assumes nothing.
-use mathlib.Core.Path.{_≡_}
 use native.Mathlib.Omega.{arith}
-use lib.ListN.{length}
 use Rattle.reader_open.proofs.Turns.{long-part}
 use borrow.Author.Needs.{needs}
 use Rattle.reader_open.proofs.handed.Statement.{statement}

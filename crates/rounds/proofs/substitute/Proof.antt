@@ -1,5 +1,5 @@
 -- `rounds::substitute` meets its contract: the bytes below i are looked up, the others as they were. Assumes nothing.
-use Prim.Native.Nat.{ℕ, _-_}
+use Prim.Native.Nat.{_-_}
 use mathlib.Core.Path.{refl}
 use lib.ListN.{getD}
 use mir.Syntax.{w8}
