@@ -1,0 +1,490 @@
+/*
+ * PLAID (ISO/IEC 25185-1), both ends: the card's load and commands, and the
+ * reader's List, Open, Seal and Accept. This header is their manual.
+ *
+ * Link with libplaid.a, for x86-64 Linux. C99 or later, or C++.
+ *
+ * A session
+ *
+ *   personaliser  plaid_load      makes the card
+ *   reader        plaid_list      makes the initial command
+ *   card          plaid_command   answers with a block of 256 bytes, which the
+ *                                 card's platform encrypts by RSA
+ *   reader        plaid_open      finds the key set, once the reader's platform
+ *                                 has decrypted the block for each listed set
+ *   reader        plaid_seal      makes the final command for one mode
+ *   card          plaid_command   answers with the mode's record, enciphered
+ *   reader        plaid_accept    checks the answer and gives the record
+ *
+ * To a stranger a card never refuses. A refused command is answered like an
+ * accepted one, with the same length and status 9000, under the shill keys.
+ *
+ * Rules for every call
+ *
+ *   - Each function takes every value of its arguments. It has no error but
+ *     its `number`: 0, or one of PLAID_DECLINE_.. below. Where several apply,
+ *     the first one in the order written is given.
+ *   - A pointer is never NULL, also where its length is 0. It points to at
+ *     least as many elements as the length says.
+ *   - Buffers given to one call do not overlap.
+ *   - Structs pass by value and hold no pointers. A struct's unnamed bytes
+ *     have no meaning: compare structs field by field. A bool is 0 or 1.
+ *   - Nothing is allocated, nothing is kept between calls, and no buffer is
+ *     kept after its call. Two threads may call at once, as long as neither
+ *     writes to a buffer that the other uses, and each card is used by one
+ *     call at a time.
+ *   - A declined call writes nothing, and hands back its number and zeros,
+ *     unless said below.
+ *   - Numbers inside commands, blocks and answers stand high byte first. The
+ *     functions write and read them so; the structs hold plain numbers.
+ *
+ * What the platform lends
+ *
+ *   Fresh bytes. plaid_command gets 253 in each call. They are random and no
+ *   stranger can guess them. The first 50 may have any value. The last 203 are
+ *   pad bytes, and none of them is 0: draw a zero again. Never use the bytes
+ *   of a call twice, and never for another card. Draw new ones for each call,
+ *   also after a call that was declined. plaid_seal gets RND2, 16 bytes, which
+ *   are as fresh: new for each session.
+ *
+ *   RSA on the card. An answer to an initial command is a padded block and a
+ *   key handle. The platform encrypts the block by the public RSA key that the
+ *   handle names, adds no padding of its own, and sends the 256 bytes that
+ *   result. It never sends the block itself. It does the same for the shill
+ *   handle.
+ *
+ *   RSA in the reader. The platform decrypts the card's 256 bytes once for
+ *   each listed key set, with that set's private key. It takes no padding off
+ *   and hands over all 256 bytes. Where a decryption fails it hands over 256
+ *   zero bytes, which open nothing. It does all of them, whichever opens.
+ *
+ * Secrets. A card holds its keys and records as they are. FAKeys, the shill
+ * key, RND1, RND2, KeysHash, the padded block and the record are secrets; the
+ * caller erases its copies.
+ */
+#ifndef PLAID_H
+#define PLAID_H
+
+#include <stdbool.h>
+#include <stddef.h>
+#include <stdint.h>
+
+#ifdef __cplusplus
+extern "C" {
+#endif
+
+/* The library's numbers of type size_t have 64 bits. */
+typedef char plaid_size_is_64_bits[sizeof(size_t) == 8 ? 1 : -1];
+
+/*
+ * Sizes, in bytes where nothing else is said
+ */
+#define PLAID_CARD_KEY_SETS 8           /* key sets of a card, at most */
+#define PLAID_CARD_MODES 16             /* modes of a card, at most */
+#define PLAID_CARD_AREA 1024            /* record area, at most */
+#define PLAID_CARD_RECORD 64            /* a record, at most; at least 1 */
+#define PLAID_KEY 16                    /* an AES key: FAKey, shill key */
+#define PLAID_DIV_DATA 16               /* DivData */
+#define PLAID_RND 16                    /* RND1, RND2 */
+#define PLAID_KEYS_HASH 16              /* KeysHash */
+
+#define PLAID_FRESH 253                 /* fresh bytes of a command call */
+#define PLAID_FRESH_ANY 50              /* the first of them: any value */
+#define PLAID_FRESH_PADS 203            /* the rest, pad bytes: none is 0 */
+#define PLAID_OUTPUT 256                /* output of a command, at least */
+#define PLAID_BLOCK 256                 /* an RSA block */
+
+#define PLAID_COMMAND_LEAST 7           /* a command: Lc 1 */
+#define PLAID_COMMAND_MOST 261          /* a command: Lc 255 */
+#define PLAID_INS_INITIAL 0x87          /* second byte of an initial command */
+#define PLAID_INS_FINAL 0x86            /* second byte of a final command */
+
+#define PLAID_LIST_IDS 16               /* KeySetIDs of a reader, at most */
+#define PLAID_LIST_COMMAND_LEAST 12     /* List's command for 1 KeySetID */
+#define PLAID_LIST_COMMAND_MOST 72      /* List's command for 16 */
+#define PLAID_PAYLOAD 205               /* payload of Seal, at most */
+#define PLAID_FINAL_COMMAND_LEAST 54    /* Seal's command, no payload */
+#define PLAID_FINAL_COMMAND_MOST 246    /* Seal's command, payload of 205 */
+
+#define PLAID_ANSWER_INITIAL 256        /* answer to an initial command */
+#define PLAID_REPLY_LEAST 2             /* reply size B, in blocks of 16 */
+#define PLAID_REPLY_MOST 6
+#define PLAID_RESPONSE_LEAST 32         /* answer to a final command: 16 B, */
+#define PLAID_RESPONSE_MOST 96          /* so 32, 48, 64, 80 or 96 */
+
+/*
+ * Status of a command's answer (ISO/IEC 7816-4)
+ */
+#define PLAID_ANSWER_OK 0x9000
+#define PLAID_ANSWER_WRONG_LENGTH 0x6700
+#define PLAID_ANSWER_WRONG_CLASS 0x6E00
+#define PLAID_ANSWER_WRONG_INSTRUCTION 0x6D00
+#define PLAID_ANSWER_WRONG_PARAMETERS 0x6A86
+
+/*
+ * Numbers. Each call hands back 0 or the number of its decline.
+ */
+#define PLAID_DONE 0
+
+/* plaid_load */
+#define PLAID_DECLINE_KEY_SET_COUNT 1     /* not 1 to 8 key sets */
+#define PLAID_DECLINE_KEY_SET_REPEATED 2  /* two sets with one KeySetID */
+#define PLAID_DECLINE_SHILL_HANDLE 3      /* a set has the shill handle */
+#define PLAID_DECLINE_MODE_COUNT 4        /* not 1 to 16 modes */
+#define PLAID_DECLINE_MODE_REPEATED 5     /* two modes with one OpModeID */
+#define PLAID_DECLINE_RECORD 6            /* area over 1024, or a record that
+                                             is empty, over 64 or outside it */
+#define PLAID_DECLINE_REPLY_SIZE 7        /* records of unequal reply size */
+/* plaid_command */
+#define PLAID_DECLINE_FRESH_COUNT 8       /* not 253 fresh bytes */
+#define PLAID_DECLINE_PAD_BYTE 9          /* a pad byte is 0 */
+#define PLAID_DECLINE_OUTPUT 10           /* output below 256 */
+/* plaid_list */
+#define PLAID_DECLINE_LIST_COUNT 11       /* not 1 to 16 KeySetIDs */
+#define PLAID_DECLINE_LIST_REPEATED 12    /* one KeySetID twice */
+#define PLAID_DECLINE_LIST_OUTPUT 13      /* output too short */
+/* plaid_open */
+#define PLAID_DECLINE_BLOCKS 14           /* not 1 to 16 KeySetIDs, or not 256
+                                             bytes for each */
+#define PLAID_DECLINE_NONE_OPENS 15       /* no block opens */
+/* plaid_seal */
+#define PLAID_DECLINE_PAYLOAD 16          /* payload over 205 */
+#define PLAID_DECLINE_SEAL_OUTPUT 17      /* output too short */
+/* plaid_accept */
+#define PLAID_DECLINE_RESPONSE 18         /* no length that an answer has */
+#define PLAID_DECLINE_WORK 19             /* work buffer too short */
+#define PLAID_DECLINE_AUTHENTICATION 20   /* not authenticated */
+
+/*
+ * The two identifiers. They are types of their own, so that a compiler refuses
+ * a key set number where a mode number belongs.
+ */
+typedef struct plaid_key_set_id {
+    uint16_t value;
+} plaid_key_set_id;
+
+typedef struct plaid_op_mode_id {
+    uint16_t value;
+} plaid_op_mode_id;
+
+/*
+ * The card
+ */
+
+/* A key set as a load gives it. */
+typedef struct plaid_key_set {
+    plaid_key_set_id id;
+    uint8_t handle;                     /* names the platform's RSA key */
+    uint8_t fa_key[PLAID_KEY];
+} plaid_key_set;
+
+/* A mode as a load gives it. Its record is a part of the record area. */
+typedef struct plaid_mode {
+    plaid_op_mode_id id;
+    size_t start;                       /* counted from 0 */
+    size_t len;
+} plaid_mode;
+
+/* What a load is given beside the key sets and the record area. */
+typedef struct plaid_given {
+    plaid_mode modes[PLAID_CARD_MODES];
+    size_t mode_count;                  /* past it nothing is looked at */
+    uint8_t div_data[PLAID_DIV_DATA];
+    uint8_t shill_key[PLAID_KEY];       /* for answers to strangers */
+    uint8_t shill_handle;               /* the same, for RSA */
+} plaid_given;
+
+/* A slot of a card. Where held is false it is empty, its other fields 0. */
+typedef struct plaid_key_set_slot {
+    bool held;
+    plaid_key_set_id id;
+    uint8_t handle;
+    uint8_t fa_key[PLAID_KEY];
+} plaid_key_set_slot;
+
+typedef struct plaid_mode_slot {
+    bool held;
+    plaid_op_mode_id id;
+    size_t start;
+    size_t len;
+} plaid_mode_slot;
+
+/* No session, or an open one. Where opened is false its other fields are 0. */
+typedef struct plaid_session {
+    bool opened;
+    plaid_key_set_id id;
+    uint8_t rnd1[PLAID_RND];
+} plaid_session;
+
+/*
+ * A card. Only plaid_load makes one and only plaid_command changes one; read
+ * its fields, but write none.
+ */
+typedef struct plaid_card {
+    plaid_key_set_slot sets[PLAID_CARD_KEY_SETS];
+    plaid_mode_slot modes[PLAID_CARD_MODES];
+    uint8_t area[PLAID_CARD_AREA];
+    uint8_t div_data[PLAID_DIV_DATA];
+    uint8_t shill_key[PLAID_KEY];
+    uint8_t shill_handle;
+    size_t reply_size;                  /* B: a final answer has 16 B bytes */
+    plaid_session session;
+} plaid_card;
+
+typedef struct plaid_loaded {
+    uint8_t number;                     /* 0, or 1 to 7 */
+    plaid_card card;
+} plaid_loaded;
+
+/*
+ * Makes a card.
+ *
+ * In: 1 to 8 key sets; 1 to 16 modes; a record area of at most 1024 bytes, of
+ * which each mode's record is a part of 1 to 64 bytes; DivData; the shill
+ * keys. Any set_count and any mode_count are taken, and a wrong one is
+ * declined. `sets` points to set_count key sets.
+ *
+ * Back: number 0 and the card. Its key sets and modes fill their slots from
+ * the first on, in the order given. The area is copied into it, with zeros
+ * behind. Its reply size is B = floor((record length + 16) / 16) + 1, from 2
+ * to 6, the same for all of its records. It has no session.
+ *
+ * Declines, in the order in which they are tested:
+ *    1  set_count is 0, or over 8
+ *    2  two key sets have the same KeySetID
+ *    3  a key set has the shill handle
+ *    4  mode_count is 0, or over 16
+ *    5  two modes have the same OpModeID
+ *    6  the area is over 1024 bytes; or a record is empty, over 64 bytes, or
+ *       not wholly inside the area
+ *    7  two records have unequal B
+ * No card results: all fields of `card` are 0. Do not use it as one.
+ *
+ * Cards that are to look alike to strangers have equal shill keys and equal B.
+ */
+plaid_loaded plaid_load(const plaid_key_set *sets, size_t set_count,
+                        plaid_given given,
+                        const uint8_t *area, size_t area_len);
+
+/*
+ * What a command call hands back beside the card and the output. The counts
+ * and the sum are for tests and audits; they stay in the card's side and are
+ * not sent.
+ */
+typedef struct plaid_answer {
+    uint8_t number;                     /* 0, or 8 to 10 */
+    uint16_t status;                    /* sent behind the answer's bytes */
+    size_t comparisons;                 /* how many steps of each kind */
+    size_t decipherments;
+    size_t encipherments;
+    size_t expansions;
+    size_t hash_blocks;
+    size_t length;                      /* of the answer, in the output */
+    uint8_t handle;                     /* RSA key for an initial answer */
+    uint32_t sum;                       /* work sum over those steps */
+} plaid_answer;
+
+typedef struct plaid_outcome {
+    plaid_answer answer;
+    plaid_card card;
+} plaid_outcome;
+
+/*
+ * Runs one command on a card.
+ *
+ * In: the card, the command's bytes, 253 fresh bytes (see "What the platform
+ * lends"), and an output buffer of at least 256 bytes.
+ *
+ * Back: the answer and the next card. THE CARD HANDED BACK REPLACES THE OLD
+ * ONE, after each call, declined ones too. To use an old value again is to
+ * roll the session back: a final command that was answered once would be
+ * answered again. After a reset, start from the card that the load returned.
+ *
+ * A command is CLA 00, INS 87 or 86, P1 P2 0000, Lc from 1 to 255, Lc data
+ * bytes, Le 00: Lc + 6 bytes in all.
+ *
+ * Initial command (INS 87). The data is a list of KeySetIDs in BER, as
+ * plaid_list writes it; the first one that the card holds wins.
+ *   length 256, status 9000, and in the output a block to encrypt under
+ *   `handle`: 00 02, the pad bytes, 00, and 50 bytes.
+ *   accepted: those are KeySetID, DivData, RND1 and RND1 again, where RND1 is
+ *       the first 16 fresh bytes. The handle is that key set's. The session
+ *       opens, and replaces any other.
+ *   refused (no set in common, or a malformed list): those are the first 50
+ *       fresh bytes. The handle is the shill handle. No session is open.
+ *   counts: 8 floor(Lc / 4) comparisons, the rest 0.
+ *
+ * Final command (INS 86). The data is STR2 as plaid_seal writes it.
+ *   length 16 B, status 9000, handle 0: nothing to encrypt, the output is sent
+ *   as it is.
+ *   accepted: record, DivData and padding, by CBC under KeysHash.
+ *   refused: the first 16 B fresh bytes, by CBC under the shill key.
+ *   The session closes either way. A payload is checked with the rest and not
+ *   used.
+ *   counts: 16 comparisons, floor(Lc / 16) decipherments, B + 1 encipherments,
+ *   3 expansions, 1 hash block.
+ *
+ * Accepted and refused have the same number, status, counts and length. Tell
+ * an initial answer from a final one by the command's INS or by the length,
+ * 256 or at most 96; not by the handle, since a key set's handle may be 0.
+ *
+ * Send: the answer's `length` bytes, an initial one's encrypted, and then the
+ * status, high byte first.
+ *
+ * Declines, in the order in which they are tested. Each keeps the card as it
+ * was, its session too, and writes nothing. Length, counts, sum and handle
+ * are 0.
+ *   number  8   fresh_len is not 253
+ *   number  9   one of the last 203 fresh bytes is 0
+ *   number 10   out_len is below 256
+ *     These three are faults of the platform. Their status is 0 and is not
+ *     sent; put it right and call again.
+ *   status 6700 under 4 bytes
+ *   status 6E00 CLA is not 00
+ *   status 6D00 INS is not 87 or 86
+ *   status 6A86 P1 P2 is not 0000
+ *   status 6700 any other fault: Lc is missing or 0, the length is not
+ *               Lc + 6, or Le is not 00
+ *     These have number 0. The status is sent, with no bytes before it.
+ *
+ * Written: the first `length` bytes of the output, and no others.
+ */
+plaid_outcome plaid_command(plaid_card card,
+                            const uint8_t *command, size_t command_len,
+                            const uint8_t *fresh, size_t fresh_len,
+                            uint8_t *out, size_t out_len);
+
+/*
+ * The reader
+ */
+
+/* The reader's KeySetIDs in order of preference: the first `count`. */
+typedef struct plaid_ids {
+    plaid_key_set_id ids[PLAID_LIST_IDS];
+    size_t count;                       /* past it nothing is looked at */
+} plaid_ids;
+
+typedef struct plaid_written {
+    uint8_t number;                     /* 0, or 11 to 13 */
+    size_t length;                      /* of the command */
+} plaid_written;
+
+/*
+ * List: makes the initial command for 1 to 16 KeySetIDs.
+ *
+ * Back: number 0 and the command's length, 4 count + 8: from 12 to 72.
+ *
+ * Declines, in the order in which they are tested:
+ *   11  count is 0, or over 16
+ *   12  a KeySetID stands twice
+ *   13  out_len is below 4 count + 8
+ *
+ * Written: the command, and no byte behind it. After a decline nothing.
+ */
+plaid_written plaid_list(plaid_ids of, uint8_t *out, size_t out_len);
+
+typedef struct plaid_opened {
+    uint8_t number;                     /* 0, or 14 or 15 */
+    size_t place;                       /* of the winner, counted from 0 */
+    plaid_key_set_id id;                /* its KeySetID */
+    uint8_t div_data[PLAID_DIV_DATA];   /* the card's DivData */
+    uint8_t rnd1[PLAID_RND];            /* the card's RND1 */
+} plaid_opened;
+
+/*
+ * Open: finds the key set of a card's answer to the initial command.
+ *
+ * In: the same KeySetIDs as List got; and one decrypted block of 256 bytes for
+ * each of them, in their order, one behind the other (see "What the platform
+ * lends").
+ *
+ * Back: number 0; the place, KeySetID, DivData and RND1 of the first block
+ * that opens. A block opens if it is 00 02, 203 bytes that are not 0, 00, and
+ * 50 bytes whose KeySetID is that entry's and whose two RND1 are equal. Every
+ * block is examined.
+ *
+ * Declines, in the order in which they are tested:
+ *   14  count is 0, or over 16; or blocks_len is not 256 count
+ *   15  no block opens: the card holds no listed key set, or is none of ours.
+ *       Which of the two, the answer does not tell
+ *
+ * Written: nothing.
+ */
+plaid_opened plaid_open(plaid_ids of, const uint8_t *blocks, size_t blocks_len);
+
+/* What Seal is given beside the payload. */
+typedef struct plaid_sealing {
+    uint8_t fa_key[PLAID_KEY];          /* of the key set that Open found */
+    uint8_t div_data[PLAID_DIV_DATA];   /* as Open gave it */
+    uint8_t rnd1[PLAID_RND];            /* as Open gave it */
+    uint8_t rnd2[PLAID_RND];            /* fresh: new for each session */
+    plaid_op_mode_id mode;              /* whose record is wanted */
+} plaid_sealing;
+
+typedef struct plaid_sealed {
+    uint8_t number;                     /* 0, or 16 or 17 */
+    size_t length;                      /* of the command */
+    uint8_t keys_hash[PLAID_KEYS_HASH]; /* for this session's Accept */
+} plaid_sealed;
+
+/*
+ * Seal: makes the final command for a mode, with a payload of 0 to 205 bytes.
+ *
+ * Back: number 0; the command's length, Lc + 6; and KeysHash, the first 16
+ * bytes of SHA-256 over RND1 and RND2. STR2 is OpModeID, RND2, payload,
+ * KeysHash and padding, so Lc = 16 (floor((34 + payload_len) / 16) + 1), from
+ * 48 to 240.
+ *
+ * KeysHash is the session's key. Give it to this session's Accept and to no
+ * other; never seal twice with one RND2.
+ *
+ * Declines, in the order in which they are tested:
+ *   16  payload_len is over 205
+ *   17  out_len is below Lc + 6
+ *
+ * Written: the command, and no byte behind it. After a decline nothing.
+ */
+plaid_sealed plaid_seal(plaid_sealing of,
+                        const uint8_t *payload, size_t payload_len,
+                        uint8_t *out, size_t out_len);
+
+/* What Accept is given beside the response. */
+typedef struct plaid_accepting {
+    uint8_t keys_hash[PLAID_KEYS_HASH]; /* as Seal gave it */
+    uint8_t div_data[PLAID_DIV_DATA];   /* as Open gave it */
+} plaid_accepting;
+
+typedef struct plaid_accepted {
+    uint8_t number;                     /* 0, or 18 to 20 */
+    size_t length;                      /* of the record; 0 after a decline */
+} plaid_accepted;
+
+/*
+ * Accept: checks a card's answer to the final command, and gives the record.
+ *
+ * In: the answer without its status, 32, 48, 64, 80 or 96 bytes; and a work
+ * buffer at least as long.
+ *
+ * Back: number 0 and the record's length, 1 to 64. The record is the first
+ * `length` bytes of the work buffer. Take it out only where number is 0.
+ *
+ * Declines, in the order in which they are tested:
+ *   18  response_len is not 32, 48, 64, 80 or 96
+ *   19  work_len is below response_len
+ *   20  not authenticated: padding, record length or DivData is wrong, one
+ *       number for all. The card refused, or is another, or the answer was
+ *       changed
+ *
+ * Written: the first response_len bytes of the work buffer and no others. They
+ * are the deciphered answer: record, DivData and padding. After 20 they are
+ * zeros. After 18 and 19 nothing is written.
+ */
+plaid_accepted plaid_accept(plaid_accepting of,
+                            const uint8_t *response, size_t response_len,
+                            uint8_t *work, size_t work_len);
+
+#ifdef __cplusplus
+}
+#endif
+
+#endif

@@ -1,0 +1,735 @@
+/*
+ * plaid.h held to what the library itself does.
+ *
+ * Results: each function is called with the result pointer given by hand, over two different fillings, so that the test sees which bytes
+ * the library writes and reads each field where the header says it stands. Inputs: distinct values in each field, which have to arrive.
+ * Constants: each is provoked, with the neighbour that is on the other side of it. Expected values come from the inputs, from document 01
+ * and from NIST's vectors.
+ *
+ * The last line is 'N passed, M failed'.
+ */
+#include "plaid.h"
+
+#include <stdio.h>
+#include <string.h>
+
+#define LENGTH(array) (sizeof(array) / sizeof((array)[0]))
+#define CHECK(test) check(test, #test, __LINE__)
+#define CANARY 0xC5
+
+static unsigned passed, failed;
+
+static void check(bool ok, const char *test, int line)
+{
+    if (ok) {
+        passed++;
+        return;
+    }
+    failed++;
+    printf("behaviour.c:%d: %s\n", line, test);
+}
+
+/* Bytes that differ from place to place and from field to field; never 0. */
+static void mark(uint8_t *to, size_t count, unsigned field)
+{
+    for (size_t i = 0; i < count; i++)
+        to[i] = (uint8_t)(1 + (field * 37 + i * 11 + i / 256 * 101) % 255);
+}
+
+static bool all(const uint8_t *bytes, size_t count, uint8_t value)
+{
+    for (size_t i = 0; i < count; i++)
+        if (bytes[i] != value)
+            return false;
+    return true;
+}
+
+/* NIST's SHA-256 vector for a message of 256 bits, as RND1 and RND2; and the first 16 bytes of its digest. */
+static const uint8_t rnd1[] = {0x09, 0xfc, 0x1a, 0xcc, 0xc2, 0x30, 0xa2, 0x05, 0xe4, 0xa2, 0x08, 0xe6, 0x4a, 0x8f, 0x20, 0x42};
+static const uint8_t rnd2[] = {0x91, 0xf5, 0x81, 0xa1, 0x27, 0x56, 0x39, 0x2d, 0xa4, 0xb8, 0xc0, 0xcf, 0x5e, 0xf0, 0x2b, 0x95};
+static const uint8_t keys_hash[] = {0x4f, 0x44, 0xc1, 0xc7, 0xfb, 0xeb, 0xb6, 0xf9, 0x60, 0x18, 0x29, 0xf3, 0x89, 0x7b, 0xfd, 0x65};
+
+/*
+ * Results
+ */
+
+/* A result over two fillings: what the library writes is equal in both, what it leaves is not. */
+#define RAW 4096
+typedef struct {
+    uint8_t bytes[2][RAW];
+} result;
+
+static void fill(result *r)
+{
+    memset(r->bytes[0], 0xA5, RAW);
+    memset(r->bytes[1], 0x5A, RAW);
+}
+
+/* One past the last byte that the library wrote. */
+static size_t extent(const result *r)
+{
+    size_t end = RAW;
+    while (end > 0 && r->bytes[0][end - 1] != r->bytes[1][end - 1])
+        end--;
+    return end;
+}
+
+/* The library wrote the struct's last field, and nothing behind the struct. */
+#define CHECK_SIZE(r, type, last) \
+    CHECK(extent(r) <= sizeof(type) && extent(r) >= offsetof(type, last) + sizeof(((type *)0)->last))
+
+/* A result of more than 16 bytes goes where the first argument points, which the function also returns (System V ABI, x86-64). */
+typedef void *raw_load(void *, const plaid_key_set *, size_t, plaid_given, const uint8_t *, size_t);
+typedef void *raw_command(void *, plaid_card, const uint8_t *, size_t, const uint8_t *, size_t, uint8_t *, size_t);
+typedef void *raw_open(void *, plaid_ids, const uint8_t *, size_t);
+typedef void *raw_seal(void *, plaid_sealing, const uint8_t *, size_t, uint8_t *, size_t);
+/* One of up to 16 bytes comes in two registers. */
+typedef struct {
+    uint64_t words[2];
+} registers;
+typedef registers raw_list(plaid_ids, uint8_t *, size_t);
+typedef registers raw_accept(plaid_accepting, const uint8_t *, size_t, uint8_t *, size_t);
+
+/* volatile, or a compiler sees the other type and makes no call. */
+#define AS(type, function) ((type *)(void (*)(void))(function))
+static raw_load *volatile load_at = AS(raw_load, plaid_load);
+static raw_command *volatile command_at = AS(raw_command, plaid_command);
+static raw_open *volatile open_at = AS(raw_open, plaid_open);
+static raw_seal *volatile seal_at = AS(raw_seal, plaid_seal);
+static raw_list *volatile list_words = AS(raw_list, plaid_list);
+static raw_accept *volatile accept_words = AS(raw_accept, plaid_accept);
+
+/*
+ * Load
+ */
+
+typedef struct {
+    plaid_key_set sets[PLAID_CARD_KEY_SETS + 1];
+    size_t set_count;
+    plaid_given given;
+    uint8_t area[PLAID_CARD_AREA + 1];
+    size_t area_len;
+} load_case;
+
+/* Every slot filled, every value its own: records of 48 to 63 bytes, which all have B = 5. */
+static load_case full_load(void)
+{
+    load_case c;
+    memset(&c, 0, sizeof c);
+    for (unsigned i = 0; i < LENGTH(c.sets); i++) {
+        c.sets[i].id.value = (uint16_t)(0x0102 + 0x1111 * i);
+        c.sets[i].handle = (uint8_t)(0x21 + i);
+        mark(c.sets[i].fa_key, sizeof c.sets[i].fa_key, i);
+    }
+    for (unsigned i = 0; i < LENGTH(c.given.modes); i++) {
+        c.given.modes[i].id.value = (uint16_t)(0xF00D - 0x0E0F * i);
+        c.given.modes[i].start = 1 + 61 * i;
+        c.given.modes[i].len = 48 + i;
+    }
+    c.set_count = PLAID_CARD_KEY_SETS;
+    c.given.mode_count = PLAID_CARD_MODES;
+    c.area_len = PLAID_CARD_AREA;
+    mark(c.area, sizeof c.area, 20);
+    mark(c.given.div_data, sizeof c.given.div_data, 21);
+    mark(c.given.shill_key, sizeof c.given.shill_key, 22);
+    c.given.shill_handle = 0x77;
+    return c;
+}
+
+static plaid_loaded load(const load_case *c)
+{
+    return plaid_load(c->sets, c->set_count, c->given, c->area, c->area_len);
+}
+
+static unsigned load_number(const load_case *c)
+{
+    return load(c).number;
+}
+
+static bool set_slot_is(const plaid_key_set_slot *slot, const plaid_key_set *set)
+{
+    return slot->held && slot->id.value == set->id.value && slot->handle == set->handle
+        && memcmp(slot->fa_key, set->fa_key, PLAID_KEY) == 0;
+}
+
+static bool mode_slot_is(const plaid_mode_slot *slot, const plaid_mode *mode)
+{
+    return slot->held && slot->id.value == mode->id.value && slot->start == mode->start && slot->len == mode->len;
+}
+
+/* What a load gave stands in the card; the session is looked at elsewhere. */
+static void check_card(const plaid_card *card, const load_case *c)
+{
+    for (size_t i = 0; i < PLAID_CARD_KEY_SETS; i++)
+        CHECK(i < c->set_count ? set_slot_is(&card->sets[i], &c->sets[i]) : !card->sets[i].held);
+    for (size_t i = 0; i < PLAID_CARD_MODES; i++)
+        CHECK(i < c->given.mode_count ? mode_slot_is(&card->modes[i], &c->given.modes[i]) : !card->modes[i].held);
+    CHECK(memcmp(card->area, c->area, c->area_len) == 0);
+    CHECK(all(card->area + c->area_len, PLAID_CARD_AREA - c->area_len, 0));
+    CHECK(memcmp(card->div_data, c->given.div_data, PLAID_DIV_DATA) == 0);
+    CHECK(memcmp(card->shill_key, c->given.shill_key, PLAID_KEY) == 0);
+    CHECK(card->shill_handle == c->given.shill_handle);
+    CHECK(card->reply_size == 5);
+}
+
+static void check_loaded(const load_case *c)
+{
+    static result r;
+    fill(&r);
+    for (int i = 0; i < 2; i++) {
+        plaid_loaded loaded;
+        CHECK(load_at(r.bytes[i], c->sets, c->set_count, c->given, c->area, c->area_len) == r.bytes[i]);
+        memcpy(&loaded, r.bytes[i], sizeof loaded);
+        CHECK(loaded.number == PLAID_DONE);
+        check_card(&loaded.card, c);
+        CHECK(!loaded.card.session.opened && loaded.card.session.id.value == 0);
+        CHECK(all(loaded.card.session.rnd1, PLAID_RND, 0));
+    }
+    CHECK_SIZE(&r, plaid_loaded, card.session.rnd1);
+}
+
+static void load_fields(void)
+{
+    load_case c = full_load();
+    check_loaded(&c);
+    c.set_count = 3;
+    c.given.mode_count = 7;
+    c.area_len = 700;
+    check_loaded(&c);
+}
+
+/* Everything wrong at once, and then put right in the order of the numbers. */
+static void load_order(void)
+{
+    load_case c = full_load(), right = full_load();
+    c.set_count = PLAID_CARD_KEY_SETS + 1;
+    c.sets[1].id = c.sets[0].id;
+    c.sets[7].handle = c.given.shill_handle;
+    c.given.mode_count = PLAID_CARD_MODES + 1;
+    c.given.modes[15].id = c.given.modes[3].id;
+    c.area_len = PLAID_CARD_AREA + 1;
+    c.given.modes[4].len = 1;
+    CHECK(load_number(&c) == PLAID_DECLINE_KEY_SET_COUNT);
+    c.set_count = PLAID_CARD_KEY_SETS;
+    CHECK(load_number(&c) == PLAID_DECLINE_KEY_SET_REPEATED);
+    c.sets[1].id = right.sets[1].id;
+    CHECK(load_number(&c) == PLAID_DECLINE_SHILL_HANDLE);
+    c.sets[7].handle = right.sets[7].handle;
+    CHECK(load_number(&c) == PLAID_DECLINE_MODE_COUNT);
+    c.given.mode_count = PLAID_CARD_MODES;
+    CHECK(load_number(&c) == PLAID_DECLINE_MODE_REPEATED);
+    c.given.modes[15].id = right.given.modes[15].id;
+    CHECK(load_number(&c) == PLAID_DECLINE_RECORD);
+    c.area_len = PLAID_CARD_AREA;
+    CHECK(load_number(&c) == PLAID_DECLINE_REPLY_SIZE);
+    c.given.modes[4].len = right.given.modes[4].len;
+    CHECK(load_number(&c) == PLAID_DONE);
+}
+
+static void load_counts(void)
+{
+    load_case c = full_load();
+    c.set_count = 0;
+    CHECK(load_number(&c) == PLAID_DECLINE_KEY_SET_COUNT);
+    CHECK(load(&c).card.reply_size == 0 && !load(&c).card.sets[0].held && !load(&c).card.modes[0].held);
+    c.set_count = 1;
+    CHECK(load_number(&c) == PLAID_DONE);
+    c.given.mode_count = 0;
+    CHECK(load_number(&c) == PLAID_DECLINE_MODE_COUNT);
+    c.given.mode_count = 1;
+    CHECK(load_number(&c) == PLAID_DONE);
+    c.given.modes[1].id = c.given.modes[0].id;
+    c.sets[1].id = c.sets[0].id;
+    CHECK(load_number(&c) == PLAID_DONE);
+}
+
+/* One mode whose record is a part of an area. */
+static plaid_loaded load_record(size_t start, size_t len, size_t area_len)
+{
+    load_case c = full_load();
+    c.given.mode_count = 1;
+    c.given.modes[0].start = start;
+    c.given.modes[0].len = len;
+    c.area_len = area_len;
+    return load(&c);
+}
+
+static void load_records(void)
+{
+    CHECK(load_record(0, 0, 100).number == PLAID_DECLINE_RECORD);
+    CHECK(load_record(0, 1, 100).card.reply_size == PLAID_REPLY_LEAST);
+    CHECK(load_record(0, 15, 100).card.reply_size == 2 && load_record(0, 16, 100).card.reply_size == 3);
+    CHECK(load_record(0, PLAID_CARD_RECORD, 100).card.reply_size == PLAID_REPLY_MOST);
+    CHECK(load_record(0, PLAID_CARD_RECORD + 1, 100).number == PLAID_DECLINE_RECORD);
+    CHECK(load_record(60, 40, 100).number == PLAID_DONE);
+    CHECK(load_record(61, 40, 100).number == PLAID_DECLINE_RECORD);
+    CHECK(load_record(SIZE_MAX, 40, 100).number == PLAID_DECLINE_RECORD);
+    CHECK(load_record(0, 40, PLAID_CARD_AREA).number == PLAID_DONE);
+    CHECK(load_record(0, 40, PLAID_CARD_AREA + 1).number == PLAID_DECLINE_RECORD);
+}
+
+/*
+ * Commands
+ */
+
+typedef struct {
+    uint8_t command[PLAID_COMMAND_MOST + 1];
+    size_t command_len;
+    uint8_t fresh[PLAID_FRESH + 1];
+    size_t fresh_len;
+    uint8_t out[PLAID_OUTPUT + 64];
+    size_t out_len;
+} call_case;
+
+/* A call whose RND1 is known, over an output buffer that shows what is written. */
+static call_case call_of(const uint8_t *command, size_t command_len)
+{
+    call_case c;
+    memset(&c, 0, sizeof c);
+    memcpy(c.command, command, command_len);
+    c.command_len = command_len;
+    mark(c.fresh, sizeof c.fresh, 30);
+    memcpy(c.fresh, rnd1, sizeof rnd1);
+    c.fresh_len = PLAID_FRESH;
+    memset(c.out, CANARY, sizeof c.out);
+    c.out_len = PLAID_OUTPUT;
+    return c;
+}
+
+/* An initial command for one key set. */
+static call_case initial_call(plaid_key_set_id id)
+{
+    uint8_t command[] = {0x00, PLAID_INS_INITIAL, 0x00, 0x00, 0x06, 0x30, 0x04, 0x04, 0x02, 0, 0, 0x00};
+    command[9] = (uint8_t)(id.value >> 8);
+    command[10] = (uint8_t)id.value;
+    return call_of(command, sizeof command);
+}
+
+static plaid_outcome call(plaid_card card, call_case *c)
+{
+    return plaid_command(card, c->command, c->command_len, c->fresh, c->fresh_len, c->out, c->out_len);
+}
+
+/* The same with the result pointer by hand; both results into o. */
+static void raw_call(plaid_card card, call_case *c, plaid_outcome o[2])
+{
+    static result r;
+    fill(&r);
+    for (int i = 0; i < 2; i++) {
+        CHECK(command_at(r.bytes[i], card, c->command, c->command_len, c->fresh, c->fresh_len, c->out, c->out_len)
+            == r.bytes[i]);
+        memcpy(&o[i], r.bytes[i], sizeof o[i]);
+    }
+    CHECK_SIZE(&r, plaid_outcome, card.session.rnd1);
+}
+
+/* Document 01's work sum of one place against eight filled slots. */
+static uint32_t sum_of_place(const load_case *c, uint16_t id)
+{
+    uint32_t sum = 0;
+    for (size_t i = 0; i < PLAID_CARD_KEY_SETS; i++) {
+        uint16_t slot = c->sets[i].id.value;
+        uint8_t step[] = {1, (uint8_t)(id >> 8), (uint8_t)id, (uint8_t)(slot >> 8), (uint8_t)slot, id == slot};
+        for (size_t j = 0; j < sizeof step; j++)
+            sum = 257 * sum + step[j] + 1;
+    }
+    return sum;
+}
+
+/* Counts of steps in the order of the struct. */
+static bool counts_are(const plaid_answer *a, size_t compare, size_t decipher, size_t encipher, size_t expand, size_t hash)
+{
+    return a->comparisons == compare && a->decipherments == decipher && a->encipherments == encipher && a->expansions == expand
+        && a->hash_blocks == hash;
+}
+
+static void check_block(const uint8_t *block, const load_case *c, const uint8_t *fresh, uint16_t id)
+{
+    const uint8_t *text = block + 3 + PLAID_FRESH_PADS;
+    CHECK(block[0] == 0 && block[1] == 2 && text[-1] == 0);
+    CHECK(memcmp(block + 2, fresh + PLAID_FRESH_ANY, PLAID_FRESH_PADS) == 0);
+    CHECK(text[0] == id >> 8 && text[1] == (id & 0xFF));
+    CHECK(memcmp(text + 2, c->given.div_data, PLAID_DIV_DATA) == 0);
+    CHECK(memcmp(text + 2 + PLAID_DIV_DATA, rnd1, PLAID_RND) == 0);
+    CHECK(memcmp(text + 2 + PLAID_DIV_DATA + PLAID_RND, rnd1, PLAID_RND) == 0);
+    CHECK(text + 2 + PLAID_DIV_DATA + 2 * PLAID_RND == block + PLAID_BLOCK);
+}
+
+static void initial_accepted(void)
+{
+    load_case l = full_load();
+    plaid_key_set_id id = l.sets[5].id;
+    call_case c = initial_call(id);
+    plaid_outcome o[2];
+    c.out_len = sizeof c.out;
+    raw_call(load(&l).card, &c, o);
+    for (int i = 0; i < 2; i++) {
+        CHECK(o[i].answer.number == PLAID_DONE && o[i].answer.status == PLAID_ANSWER_OK);
+        CHECK(counts_are(&o[i].answer, 8, 0, 0, 0, 0));
+        CHECK(o[i].answer.length == PLAID_ANSWER_INITIAL);
+        CHECK(o[i].answer.handle == l.sets[5].handle);
+        CHECK(o[i].answer.sum == sum_of_place(&l, id.value));
+        check_card(&o[i].card, &l);
+        CHECK(o[i].card.session.opened && o[i].card.session.id.value == id.value);
+        CHECK(memcmp(o[i].card.session.rnd1, rnd1, PLAID_RND) == 0);
+    }
+    check_block(c.out, &l, c.fresh, id.value);
+    CHECK(all(c.out + PLAID_ANSWER_INITIAL, sizeof c.out - PLAID_ANSWER_INITIAL, CANARY));
+}
+
+static void initial_refused(void)
+{
+    load_case l = full_load();
+    plaid_key_set_id unknown = {0x7E57};
+    call_case c = initial_call(unknown);
+    plaid_outcome o = call(load(&l).card, &c);
+    CHECK(o.answer.number == PLAID_DONE && o.answer.status == PLAID_ANSWER_OK && o.answer.length == PLAID_ANSWER_INITIAL);
+    CHECK(o.answer.handle == l.given.shill_handle && !o.card.session.opened);
+    CHECK(memcmp(c.out + 3 + PLAID_FRESH_PADS, c.fresh, PLAID_FRESH_ANY) == 0);
+}
+
+/* A declined call: number or status, zeros, the card kept with its session, nothing written. */
+static void check_declined(plaid_card card, call_case *c, unsigned number, unsigned status, int line)
+{
+    memset(c->out, CANARY, sizeof c->out);
+    plaid_outcome o = call(card, c);
+    bool zeros = counts_are(&o.answer, 0, 0, 0, 0, 0) && o.answer.length == 0 && o.answer.handle == 0 && o.answer.sum == 0;
+    check(o.answer.number == number && o.answer.status == status, "number and status of a declined command", line);
+    check(zeros, "zeros of a declined command", line);
+    check(o.card.session.opened && o.card.session.id.value == card.session.id.value, "session after a declined command", line);
+    check(all(c->out, sizeof c->out, CANARY), "output of a declined command", line);
+}
+#define CHECK_DECLINED(number, status) check_declined(card, &c, number, status, __LINE__)
+
+/* Everything wrong at once, and then put right in the order written. */
+static void command_order(plaid_card card, call_case c)
+{
+    call_case right = c;
+    c.fresh_len = PLAID_FRESH + 1;
+    c.fresh[PLAID_FRESH_ANY] = 0;
+    c.out_len = PLAID_OUTPUT - 1;
+    memset(c.command, 0xFF, sizeof c.command);
+    c.command_len = 3;
+    CHECK_DECLINED(PLAID_DECLINE_FRESH_COUNT, 0);
+    c.fresh_len = PLAID_FRESH - 1;
+    CHECK_DECLINED(PLAID_DECLINE_FRESH_COUNT, 0);
+    c.fresh_len = PLAID_FRESH;
+    CHECK_DECLINED(PLAID_DECLINE_PAD_BYTE, 0);
+    c.fresh[PLAID_FRESH_ANY] = 1;
+    CHECK_DECLINED(PLAID_DECLINE_OUTPUT, 0);
+    c.out_len = PLAID_OUTPUT;
+    CHECK_DECLINED(PLAID_DONE, PLAID_ANSWER_WRONG_LENGTH);
+    c.command_len = 4;
+    CHECK_DECLINED(PLAID_DONE, PLAID_ANSWER_WRONG_CLASS);
+    c.command[0] = 0x00;
+    CHECK_DECLINED(PLAID_DONE, PLAID_ANSWER_WRONG_INSTRUCTION);
+    c.command[1] = right.command[1];
+    CHECK_DECLINED(PLAID_DONE, PLAID_ANSWER_WRONG_PARAMETERS);
+    c.command[2] = 0x00;
+    CHECK_DECLINED(PLAID_DONE, PLAID_ANSWER_WRONG_PARAMETERS);
+    c.command[3] = 0x00;
+    CHECK_DECLINED(PLAID_DONE, PLAID_ANSWER_WRONG_LENGTH);
+    memcpy(c.command, right.command, sizeof c.command);
+    c.command_len = right.command_len + 1;
+    CHECK_DECLINED(PLAID_DONE, PLAID_ANSWER_WRONG_LENGTH);
+    c.command_len = right.command_len;
+    CHECK(call(card, &c).answer.status == PLAID_ANSWER_OK);
+}
+
+static void command_fresh(plaid_card card, call_case c)
+{
+    CHECK(PLAID_FRESH_ANY + PLAID_FRESH_PADS == PLAID_FRESH);
+    c.fresh[PLAID_FRESH_ANY - 1] = 0;
+    CHECK(call(card, &c).answer.number == PLAID_DONE);
+    c.fresh[PLAID_FRESH - 1] = 0;
+    CHECK_DECLINED(PLAID_DECLINE_PAD_BYTE, 0);
+}
+
+/* The shortest and the longest command, for both kinds. */
+static void command_lengths(plaid_card card)
+{
+    static const uint8_t ins[] = {PLAID_INS_INITIAL, PLAID_INS_FINAL};
+    for (size_t i = 0; i < LENGTH(ins); i++) {
+        uint8_t command[PLAID_COMMAND_MOST] = {0x00, ins[i], 0x00, 0x00, 0x01};
+        call_case c = call_of(command, PLAID_COMMAND_LEAST);
+        CHECK(call(card, &c).answer.status == PLAID_ANSWER_OK);
+        c.command_len = PLAID_COMMAND_LEAST - 1;
+        c.command[4] = 0;
+        CHECK_DECLINED(PLAID_DONE, PLAID_ANSWER_WRONG_LENGTH);
+        c.command_len = PLAID_COMMAND_MOST;
+        c.command[4] = 0xFF;
+        CHECK(call(card, &c).answer.status == PLAID_ANSWER_OK);
+        c.command_len = PLAID_COMMAND_MOST + 1;
+        CHECK_DECLINED(PLAID_DONE, PLAID_ANSWER_WRONG_LENGTH);
+    }
+}
+
+static void commands_declined(void)
+{
+    load_case l = full_load();
+    call_case c = initial_call(l.sets[2].id);
+    plaid_card card = call(load(&l).card, &c).card;
+    command_order(card, c);
+    command_fresh(card, c);
+    command_lengths(card);
+}
+
+/*
+ * The reader
+ */
+
+static plaid_ids ids_of(size_t count)
+{
+    plaid_ids of;
+    for (size_t i = 0; i < LENGTH(of.ids); i++)
+        of.ids[i].value = (uint16_t)(0xA1B2 + 0x0703 * i);
+    of.count = count;
+    return of;
+}
+
+/* List over a buffer of this size, with the result's two registers as bytes of the struct. */
+static plaid_written list(plaid_ids of, uint8_t *out, size_t out_len)
+{
+    plaid_written w;
+    registers r = list_words(of, out, out_len);
+    CHECK(sizeof w == sizeof r);
+    memcpy(&w, &r, sizeof w);
+    return w;
+}
+
+static void check_list(size_t count, size_t length)
+{
+    uint8_t out[PLAID_LIST_COMMAND_MOST + 8];
+    plaid_ids of = ids_of(count);
+    memset(out, CANARY, sizeof out);
+    plaid_written w = list(of, out, length);
+    CHECK(w.number == PLAID_DONE && w.length == length);
+    CHECK(out[0] == 0 && out[1] == PLAID_INS_INITIAL && out[2] == 0 && out[3] == 0 && out[4] == 4 * count + 2);
+    CHECK(out[5] == 0x30 && out[6] == 4 * count && out[length - 1] == 0);
+    for (size_t i = 0; i < count; i++) {
+        const uint8_t *entry = out + 7 + 4 * i;
+        CHECK(entry[0] == 4 && entry[1] == 2 && entry[2] == of.ids[i].value >> 8 && entry[3] == (of.ids[i].value & 0xFF));
+    }
+    CHECK(all(out + length, sizeof out - length, CANARY));
+}
+
+static void list_fields(void)
+{
+    uint8_t out[PLAID_LIST_COMMAND_MOST];
+    check_list(1, PLAID_LIST_COMMAND_LEAST);
+    check_list(PLAID_LIST_IDS, PLAID_LIST_COMMAND_MOST);
+    plaid_ids of = ids_of(PLAID_LIST_IDS);
+    of.ids[15] = of.ids[0];
+    memset(out, CANARY, sizeof out);
+    CHECK(list(ids_of(0), out, sizeof out).number == PLAID_DECLINE_LIST_COUNT);
+    of.count = PLAID_LIST_IDS + 1;
+    CHECK(list(of, out, 0).number == PLAID_DECLINE_LIST_COUNT);
+    of.count = PLAID_LIST_IDS;
+    CHECK(list(of, out, 0).number == PLAID_DECLINE_LIST_REPEATED);
+    of.count = PLAID_LIST_IDS - 1;
+    CHECK(list(of, out, sizeof out).length == PLAID_LIST_COMMAND_MOST - 4);
+    of = ids_of(PLAID_LIST_IDS);
+    memset(out, CANARY, sizeof out);
+    CHECK(list(of, out, PLAID_LIST_COMMAND_MOST - 1).number == PLAID_DECLINE_LIST_OUTPUT);
+    CHECK(list(of, out, PLAID_LIST_COMMAND_MOST - 1).length == 0);
+    CHECK(all(out, sizeof out, CANARY));
+}
+
+/* A block that opens for a KeySetID. */
+static void write_block(uint8_t *block, uint16_t id, const uint8_t *div_data, const uint8_t *rnd)
+{
+    uint8_t *text = block + 3 + PLAID_FRESH_PADS;
+    memset(block, 0x99, PLAID_BLOCK);
+    block[0] = 0;
+    block[1] = 2;
+    text[-1] = 0;
+    text[0] = (uint8_t)(id >> 8);
+    text[1] = (uint8_t)id;
+    memcpy(text + 2, div_data, PLAID_DIV_DATA);
+    memcpy(text + 2 + PLAID_DIV_DATA, rnd, PLAID_RND);
+    memcpy(text + 2 + PLAID_DIV_DATA + PLAID_RND, rnd, PLAID_RND);
+}
+
+static uint8_t blocks[PLAID_BLOCK * (PLAID_LIST_IDS + 1)];
+
+static unsigned open_number(plaid_ids of, size_t blocks_len)
+{
+    return plaid_open(of, blocks, blocks_len).number;
+}
+
+/* Two blocks open; the first of them wins. */
+static void open_fields(void)
+{
+    static result r;
+    plaid_ids of = ids_of(PLAID_LIST_IDS);
+    uint8_t div_data[PLAID_DIV_DATA], other[PLAID_RND];
+    mark(div_data, sizeof div_data, 40);
+    mark(other, sizeof other, 41);
+    memset(blocks, 0, sizeof blocks);
+    write_block(blocks + 11 * PLAID_BLOCK, of.ids[11].value, div_data, rnd1);
+    write_block(blocks + 13 * PLAID_BLOCK, of.ids[13].value, other, other);
+    fill(&r);
+    for (int i = 0; i < 2; i++) {
+        plaid_opened o;
+        CHECK(open_at(r.bytes[i], of, blocks, PLAID_LIST_IDS * PLAID_BLOCK) == r.bytes[i]);
+        memcpy(&o, r.bytes[i], sizeof o);
+        CHECK(o.number == PLAID_DONE && o.place == 11 && o.id.value == of.ids[11].value);
+        CHECK(memcmp(o.div_data, div_data, PLAID_DIV_DATA) == 0 && memcmp(o.rnd1, rnd1, PLAID_RND) == 0);
+    }
+    CHECK_SIZE(&r, plaid_opened, rnd1);
+}
+
+static void open_declined(void)
+{
+    plaid_ids of = ids_of(PLAID_LIST_IDS + 1);
+    CHECK(open_number(of, sizeof blocks) == PLAID_DECLINE_BLOCKS);
+    CHECK(open_number(ids_of(0), 0) == PLAID_DECLINE_BLOCKS);
+    of.count = 12;
+    CHECK(open_number(of, 12 * PLAID_BLOCK - 1) == PLAID_DECLINE_BLOCKS);
+    CHECK(open_number(of, 12 * PLAID_BLOCK + 1) == PLAID_DECLINE_BLOCKS);
+    CHECK(open_number(of, 12 * PLAID_BLOCK) == PLAID_DONE);
+    of.count = 11;
+    CHECK(open_number(of, 11 * PLAID_BLOCK) == PLAID_DECLINE_NONE_OPENS);
+    of.count = 12;
+    blocks[11 * PLAID_BLOCK + 2 + PLAID_FRESH_PADS - 1] = 0;
+    CHECK(open_number(of, 12 * PLAID_BLOCK) == PLAID_DECLINE_NONE_OPENS);
+}
+
+/* The set whose session is open is the sixth, the mode the fourth. */
+static plaid_sealing sealing_of(const load_case *l)
+{
+    plaid_sealing of;
+    memset(&of, 0, sizeof of);
+    memcpy(of.fa_key, l->sets[5].fa_key, PLAID_KEY);
+    memcpy(of.div_data, l->given.div_data, PLAID_DIV_DATA);
+    memcpy(of.rnd1, rnd1, PLAID_RND);
+    memcpy(of.rnd2, rnd2, PLAID_RND);
+    of.mode = l->given.modes[3].id;
+    return of;
+}
+
+static uint8_t payload[PLAID_PAYLOAD + 1];
+
+static void seal_fields(void)
+{
+    static result r;
+    load_case l = full_load();
+    uint8_t out[PLAID_FINAL_COMMAND_MOST + 8];
+    memset(out, CANARY, sizeof out);
+    fill(&r);
+    for (int i = 0; i < 2; i++) {
+        plaid_sealed s;
+        CHECK(seal_at(r.bytes[i], sealing_of(&l), payload, 0, out, PLAID_FINAL_COMMAND_LEAST) == r.bytes[i]);
+        memcpy(&s, r.bytes[i], sizeof s);
+        CHECK(s.number == PLAID_DONE && s.length == PLAID_FINAL_COMMAND_LEAST);
+        CHECK(memcmp(s.keys_hash, keys_hash, PLAID_KEYS_HASH) == 0);
+    }
+    CHECK_SIZE(&r, plaid_sealed, keys_hash);
+    CHECK(out[0] == 0 && out[1] == PLAID_INS_FINAL && out[2] == 0 && out[3] == 0 && out[4] == PLAID_FINAL_COMMAND_LEAST - 6);
+    CHECK(out[PLAID_FINAL_COMMAND_LEAST - 1] == 0);
+    CHECK(all(out + PLAID_FINAL_COMMAND_LEAST, sizeof out - PLAID_FINAL_COMMAND_LEAST, CANARY));
+}
+
+static void seal_declined(void)
+{
+    load_case l = full_load();
+    plaid_sealing of = sealing_of(&l);
+    uint8_t out[PLAID_FINAL_COMMAND_MOST];
+    memset(out, CANARY, sizeof out);
+    CHECK(plaid_seal(of, payload, PLAID_PAYLOAD + 1, out, 0).number == PLAID_DECLINE_PAYLOAD);
+    CHECK(plaid_seal(of, payload, PLAID_PAYLOAD, out, PLAID_FINAL_COMMAND_MOST - 1).number == PLAID_DECLINE_SEAL_OUTPUT);
+    CHECK(plaid_seal(of, payload, 0, out, PLAID_FINAL_COMMAND_LEAST - 1).number == PLAID_DECLINE_SEAL_OUTPUT);
+    CHECK(plaid_seal(of, payload, 0, out, PLAID_FINAL_COMMAND_LEAST - 1).length == 0);
+    CHECK(all(out, sizeof out, CANARY));
+    CHECK(plaid_seal(of, payload, PLAID_PAYLOAD, out, PLAID_FINAL_COMMAND_MOST).length == PLAID_FINAL_COMMAND_MOST);
+}
+
+/* Accept with the result's two registers as bytes of the struct. */
+static plaid_accepted accept(const uint8_t *div_data, const uint8_t *response, size_t response_len, uint8_t *work, size_t work_len)
+{
+    plaid_accepting of;
+    plaid_accepted a;
+    memcpy(of.keys_hash, keys_hash, PLAID_KEYS_HASH);
+    memcpy(of.div_data, div_data, PLAID_DIV_DATA);
+    registers r = accept_words(of, response, response_len, work, work_len);
+    CHECK(sizeof a == sizeof r);
+    memcpy(&a, &r, sizeof a);
+    return a;
+}
+
+/* The final answer of the card under the longest payload, in c's output; distinct counts. */
+static plaid_outcome final_answer(const load_case *l, call_case *c)
+{
+    call_case first = initial_call(l->sets[5].id);
+    plaid_card card = call(load(l).card, &first).card;
+    uint8_t command[PLAID_FINAL_COMMAND_MOST];
+    plaid_sealed s = plaid_seal(sealing_of(l), payload, PLAID_PAYLOAD, command, sizeof command);
+    plaid_outcome o[2];
+    *c = call_of(command, s.length);
+    c->out_len = sizeof c->out;
+    raw_call(card, c, o);
+    CHECK(memcmp(&o[0].answer.sum, &o[1].answer.sum, sizeof o[0].answer.sum) == 0);
+    return o[0];
+}
+
+static void session(void)
+{
+    load_case l = full_load();
+    call_case c;
+    plaid_outcome o = final_answer(&l, &c);
+    uint8_t work[PLAID_RESPONSE_MOST];
+    size_t record = l.given.modes[3].len;
+    CHECK(o.answer.number == PLAID_DONE && o.answer.status == PLAID_ANSWER_OK && o.answer.handle == 0);
+    CHECK(counts_are(&o.answer, 16, 15, 6, 3, 1) && o.answer.length == 80 && o.answer.sum != 0);
+    CHECK(!o.card.session.opened);
+    check_card(&o.card, &l);
+    CHECK(all(c.out + 80, sizeof c.out - 80, CANARY));
+    memset(work, CANARY, sizeof work);
+    plaid_accepted a = accept(l.given.div_data, c.out, 80, work, sizeof work);
+    CHECK(a.number == PLAID_DONE && a.length == record);
+    CHECK(memcmp(work, l.area + l.given.modes[3].start, record) == 0);
+    CHECK(memcmp(work + record, l.given.div_data, PLAID_DIV_DATA) == 0 && work[record + PLAID_DIV_DATA] == 0x80);
+    CHECK(all(work + 80, sizeof work - 80, CANARY));
+}
+
+static void accept_declined(void)
+{
+    load_case l = full_load();
+    call_case c;
+    uint8_t work[PLAID_RESPONSE_MOST];
+    final_answer(&l, &c);
+    memset(work, CANARY, sizeof work);
+    CHECK(accept(l.given.div_data, c.out, 81, work, 0).number == PLAID_DECLINE_RESPONSE);
+    CHECK(accept(l.given.div_data, c.out, 80, work, 79).number == PLAID_DECLINE_WORK);
+    CHECK(all(work, sizeof work, CANARY));
+    plaid_accepted a = accept(l.given.shill_key, c.out, 80, work, 80);
+    CHECK(a.number == PLAID_DECLINE_AUTHENTICATION && a.length == 0);
+    CHECK(all(work, 80, 0) && all(work + 80, sizeof work - 80, CANARY));
+    CHECK(accept(l.given.shill_key, c.out, PLAID_RESPONSE_LEAST, work, sizeof work).number == PLAID_DECLINE_AUTHENTICATION);
+    CHECK(accept(l.given.shill_key, c.out, PLAID_RESPONSE_MOST, work, sizeof work).number == PLAID_DECLINE_AUTHENTICATION);
+    for (size_t n = 0; n <= 2 * PLAID_RESPONSE_MOST; n++) {
+        bool known = n % 16 == 0 && n >= PLAID_RESPONSE_LEAST && n <= PLAID_RESPONSE_MOST;
+        unsigned number = accept(l.given.shill_key, c.out, n, work, sizeof work).number;
+        CHECK(number == (known ? PLAID_DECLINE_AUTHENTICATION : PLAID_DECLINE_RESPONSE));
+    }
+}
+
+int main(void)
+{
+    load_fields();
+    load_order();
+    load_counts();
+    load_records();
+    initial_accepted();
+    initial_refused();
+    commands_declined();
+    list_fields();
+    open_fields();
+    open_declined();
+    seal_fields();
+    seal_declined();
+    session();
+    accept_declined();
+    printf("%u passed, %u failed\n", passed, failed);
+    return failed > 0;
+}
