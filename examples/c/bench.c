@@ -1,0 +1,68 @@
+#include "bench.h"
+#include "example.h"
+#include "platform.h"
+
+#include <string.h>
+
+static const char payload[] = "FEEDER-21A";
+
+/* The line between the two ends: a reader_exchange. */
+static size_t exchange(void *line, const uint8_t *command, size_t command_len, uint8_t *answer, size_t answer_room)
+{
+    bench *b = line;
+    bench_exchange *x = b->exchanges++ == 0 ? &b->initial : &b->final;
+    uint8_t fresh[PLAID_FRESH], others[CARD_ANSWER_MOST];
+    plaid_answer told;
+    memcpy(x->command, command, command_len);
+    x->command_len = command_len;
+    if (b->fault.damage && command[1] == PLAID_INS_FINAL)
+        x->command[command_len - 2] ^= 0x01; /* the last data byte; Le stands behind it */
+    if (!platform_fresh(fresh))
+        return 0;
+    size_t length = card_answer(&b->card, x->command, command_len, fresh, x->answer, &x->told);
+    size_t other = card_answer(&b->other, x->command, command_len, fresh, others, &told);
+    if (length < 2 || length > answer_room)
+        return 0;
+    x->answer_len = length - 2;
+    x->as_other_card = other == length && memcmp(x->answer, others, length) == 0;
+    memcpy(answer, x->answer, length);
+    return length;
+}
+
+/* Where the reader has stopped, the bench sends a final command of its own, of the usual length and with random data. */
+static bool send_random_final(bench *b)
+{
+    uint8_t command[PLAID_FINAL_COMMAND_LEAST] = {0x00, PLAID_INS_FINAL, 0x00, 0x00, PLAID_FINAL_COMMAND_LEAST - 6};
+    uint8_t answer[PLAID_RESPONSE_MOST + 2];
+    return platform_random(command + 5, sizeof command - 6) && exchange(b, command, sizeof command, answer, sizeof answer) > 0;
+}
+
+static void prepare_reader(bench *b)
+{
+    memcpy(b->sets, b->fault.no_common_set ? example_strange_reader : example_reader, sizeof example_reader);
+    if (b->fault.wrong_key)
+        b->sets[1].fa_key[0] ^= 0x01;
+    b->plan.sets = b->sets;
+    b->plan.set_count = EXAMPLE_READER_SETS;
+    b->plan.mode = b->fault.unknown_mode ? example_unknown_mode : example_mode;
+    b->plan.payload = (const uint8_t *)payload;
+    b->plan.payload_len = strlen(payload);
+    b->plan.exchange = exchange;
+    b->plan.line = b;
+}
+
+bool bench_run(bench *b, bench_fault fault)
+{
+    memset(b, 0, sizeof *b);
+    b->fault = fault;
+    plaid_loaded card = example_card(), other = example_other_card();
+    if (card.number != PLAID_DONE || other.number != PLAID_DONE)
+        return false;
+    b->card = card.card;
+    b->other = other.card;
+    prepare_reader(b);
+    b->number = reader_run(&b->plan, &b->session);
+    if (b->exchanges == 1 && b->number == PLAID_DECLINE_NONE_OPENS && !send_random_final(b))
+        return false;
+    return b->number != READER_NO_ANSWER;
+}

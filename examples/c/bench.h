@@ -1,0 +1,43 @@
+/*
+ * A bench on which a card and a reader hold one session. The bench keeps what goes over the line. Beside the card stands another one, with
+ * other keys and records but the same shill keys, which gets the same commands and, as an experiment, the same fresh bytes.
+ */
+#ifndef BENCH_H
+#define BENCH_H
+
+#include "card_end.h"
+#include "reader_end.h"
+
+/* A command and its answer. */
+typedef struct {
+    uint8_t command[PLAID_COMMAND_MOST];
+    size_t command_len;
+    uint8_t answer[CARD_ANSWER_MOST];
+    size_t answer_len;  /* without the status */
+    plaid_answer told;
+    bool as_other_card; /* the other card sent the same bytes */
+} bench_exchange;
+
+/* How a session goes wrong; with nothing set it does not. */
+typedef struct {
+    bool no_common_set;
+    bool wrong_key;
+    bool unknown_mode;
+    bool damage; /* a bit of the final command's last block */
+} bench_fault;
+
+typedef struct {
+    plaid_card card, other;
+    bench_fault fault;
+    plaid_key_set sets[PLAID_LIST_IDS]; /* the reader's */
+    reader_plan plan;
+    reader_session session;
+    int number; /* what reader_run returned */
+    size_t exchanges;
+    bench_exchange initial, final;
+} bench;
+
+/* Runs a session. False where a load was declined or the platform failed. */
+bool bench_run(bench *b, bench_fault fault);
+
+#endif
