@@ -9,7 +9,7 @@
 
 function write(kind, label, at, first, second,    folder, i) {
     folder = dir "/" kind "-" (++count[kind])
-    system("mkdir -p " folder)
+    system("mkdir -p '" folder "'")
     for (i = 1; i <= NR; i++)
         print(i == at ? first : i == at + 1 && second != "" ? second : line[i]) >(folder "/plaid.h")
     print label >(folder "/label")
