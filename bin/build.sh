@@ -5,7 +5,11 @@ newer() { [ ! -e "$1" ] || [ -n "$(find -L "${@:2}" -type f -newer "$1" -print -
 
 # library: builds the proved library where it has to be, and prints its path
 library() {
-    local lib=$top/target/staticlib/libplaid.a
-    if newer "$lib" "$top/crates" "$top/crates.txt"; then (cd "$top" && rt staticlib plaid) >&2 || return; fi
+    local lib=$top/target/staticlib/libplaid.a log=$top/target/staticlib.log
+    if newer "$lib" "$top/crates" "$top/crates.txt"; then
+        echo "building the library: each of its functions is proved first, which takes some minutes from nothing" >&2
+        mkdir -p "$top/target"
+        (cd "$top" && rt staticlib plaid) >"$log" 2>&1 || { tail -n 20 "$log" >&2; return 1; }
+    fi
     echo "$lib"
 }
