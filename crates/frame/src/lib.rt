@@ -12,7 +12,7 @@ pub struct Verdict {
     pub status: u16,
 }
 
-fn no_zero(s: &[u8], from: usize) -> bool
+pub fn no_zero(s: &[u8], from: usize) -> bool
     ensures { λ r. ⌜ r ≡ noZero (drop from (now (s .entry))) ⌝ }
 {
     let mut ok = true;

@@ -88,7 +88,8 @@ fn again(ids: &[u16], i: usize, n: usize) -> bool
     r
 }
 
-fn repeats(ids: &[u16], n: usize) -> bool
+// Whether one of the first n numbers stands again.
+pub fn repeats(ids: &[u16], n: usize) -> bool
     requires { ⌜ n ≤ length (now ids) ⌝ }
     ensures { λ r. ⌜ r ≡ repeated (take n (now (ids .entry))) ⌝ }
 {

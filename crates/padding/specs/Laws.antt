@@ -126,10 +126,10 @@ pub seen : (s : List ℕ) (n : ℕ) → unpadded s ≡ Text n → Seen s n
 unfolding unpadded
 seen s n q = seen-by s n (rightly s) refl q
 
--- and where it has seen that, it answers so; where there is no such n, it answers Malformed
-pub seen-text : (s : List ℕ) (n : ℕ) → Seen s n → unpadded s ≡ Text n
-unfolding unpadded rightly
-seen-text s n k =
+-- and where it has seen that, the text is rightly padded, and it answers so; where there is no such n, it answers Malformed
+pub rightly-seen : (s : List ℕ) (n : ℕ) → Seen s n → rightly s ≡ true
+unfolding rightly
+rightly-seen s n k =
     let p : suc n - 1 ≡ n = omega arith in
     simp (
       k .ends,
@@ -139,6 +139,12 @@ seen-text s n k =
       k .one,
       lt-ltb (length s) (suc n + 16) (omega (arith, k .last)),
     )
+
+pub seen-text : (s : List ℕ) (n : ℕ) → Seen s n → unpadded s ≡ Text n
+unfolding unpadded
+seen-text s n k =
+    let p : suc n - 1 ≡ n = omega arith in
+    simp (rightly-seen s n k, k .ends, p)
 
 malformed-by : (s : List ℕ) (u : Unpadded) → unpadded s ≡ u → ((n : ℕ) → Seen s n → ⊥) → u ≡ Malformed
 malformed-by s (Text n) e f = absurd (f n (seen s n e))

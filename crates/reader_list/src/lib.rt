@@ -1,13 +1,10 @@
 //! The reader's List: the initial command for its key sets.
 use plaid_types::KeySetId;
 ghost use mathlib.Core.Path.{_≡_};
-ghost use mathlib.Core.Bool.{_||_};
-ghost use Prim.Native.Nat.{_+_, _*_, _<_, _≤_};
-ghost use lib.Dec.{eqb};
-ghost use lib.ListN.{length, getD, drop};
+ghost use Prim.Native.Nat.{_+_, _*_, _≤_};
+ghost use lib.ListN.{length};
 ghost use Rattle.octets.specs.Lists.{over};
 ghost use Rattle.list.specs.Encoding.{shortEntries};
-ghost use Rattle.load.specs.Load.{some, repeated};
 ghost use Rattle.reader_list.specs.List.{numbers, listCommand, listed, listOutput};
 
 // What List hands back: the number, and the command's length.
@@ -38,39 +35,6 @@ fn numbers(ids: [KeySetId; 16]) -> [u16; 16]
         i += 1;
     }
     n
-}
-
-fn either(a: bool, b: bool) -> bool
-    ensures { λ r. ⌜ r ≡ (a || b) ⌝ }
-{
-    if a { true } else { b }
-}
-
-// Whether the i-th number stands again behind itself.
-fn again(ids: &[u16], i: usize) -> bool
-    requires { ⌜ i < length (now ids) ⌝ }
-    ensures { λ r. ⌜ r ≡ some (eqb (getD (now (ids .entry)) i 0)) (drop (i + 1) (now (ids .entry))) ⌝ }
-{
-    let x = ids[i];
-    let mut r = false;
-    let mut j = i + 1;
-    while j < ids.len() {
-        r = either(r, x == ids[j]);
-        j += 1;
-    }
-    r
-}
-
-fn repeats(ids: &[u16]) -> bool
-    ensures { λ r. ⌜ r ≡ repeated (now (ids .entry)) ⌝ }
-{
-    let mut r = false;
-    let mut i: usize = 0;
-    while i < ids.len() {
-        r = either(r, again(ids, i));
-        i += 1;
-    }
-    r
 }
 
 // The entries, each 04 02 and the KeySetID, from place 7 on.
@@ -113,13 +77,13 @@ pub fn list(ids: [KeySetId; 16], count: usize, out: &mut [u8]) -> Written
         return declined(11);
     }
     let all = numbers(ids);
-    let given = &all[..count];
-    if repeats(given) {
+    if load::repeats(&all, count) {
         return declined(12);
     }
     if out.len() < 4 * count + 8 {
         return declined(13);
     }
+    let given = &all[..count];
     let length = command(given, out);
     Written {
         number: 0,

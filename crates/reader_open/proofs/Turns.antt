@@ -1,6 +1,6 @@
--- The turns and the ends of the two loops: the look for a zero byte, and the look for the first block that opens. Assumes nothing.
+-- The turn and the end of the loop that looks for the first block that opens. Assumes nothing.
 use mathlib.Core.Path.{_≡_, sym, ap, _∙_}
-use mathlib.Core.Bool.{Bool, cond, _&&_, not, and-assoc}
+use mathlib.Core.Bool.{Bool, cond}
 use mathlib.Core.List.{List}
 use Prim.Native.Nat.{ℕ, _+_, _<_, _≤_}
 use native.Mathlib.Numerals.{add-one}
@@ -9,22 +9,10 @@ use lib.Dec.{eqb}
 use lib.ListN.{length, getD, take, drop, drop-of-length-le}
 use lib.Seq.{drop-cons, getD-take, length-take-le}
 use Rattle.octets.specs.Lists.{part, length-part}
-use Rattle.frame.specs.Declines.{noZero}
 use Rattle.steps.specs.Made.{kept}
 use Rattle.steps.specs.Laws.{kept-next, kept-last}
 use Rattle.plaid_types.specs.declared.KeySetId.{KeySetId}
 use Rattle.reader_open.specs.Open.{opensAs, blockAt, firstOpen, winner, noId}
-
-zero-next : (s : List ℕ) (i : ℕ) → i < length s → noZero (drop i s) ≡ (not (eqb (getD s i 0) 0) && noZero (drop (i + 1) s))
-zero-next s i h = rw (add-one, drop-cons s i 0)
-
-pub zero-turn : (s : List ℕ) (i : ℕ) (ok more all : Bool) → i < length s → more ≡ (ok && not (eqb (getD s i 0) 0)) → (ok && noZero (drop i s)) ≡ all →
-    (more && noZero (drop (i + 1) s)) ≡ all
-zero-turn s i ok more all h m e =
-    ap (λ (b : Bool). b && noZero (drop (i + 1) s)) m
-    ∙ and-assoc ok (not (eqb (getD s i 0) 0)) (noZero (drop (i + 1) s))
-    ∙ sym (ap (λ (b : Bool). ok && b) (zero-next s i h))
-    ∙ e
 
 pub long-part : (l : List ℕ) (at n : ℕ) {r : List ℕ} → at + n ≤ length l → r ≡ part l at n → length r ≡ n
 long-part l at n h e = ap length e ∙ length-part l at n h

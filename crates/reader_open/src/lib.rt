@@ -5,7 +5,6 @@ ghost use mathlib.Core.Bool.{_&&_};
 ghost use Prim.Native.Nat.{_+_, _*_, _≤_};
 ghost use lib.ListN.{length, take};
 ghost use Rattle.octets.specs.Lists.{part};
-ghost use Rattle.frame.specs.Declines.{noZero};
 ghost use Rattle.reader_open.specs.Open.{formed, idOf, agrees, opensAs, winner, numberAlone, openedAt, opened};
 
 // What Open hands back: the number; and the winning entry's place and KeySetID, with DivData and RND1 of its block.
@@ -44,24 +43,12 @@ fn both(a: bool, b: bool) -> bool
     if a { b } else { false }
 }
 
-fn no_zero(s: &[u8]) -> bool
-    ensures { λ r. ⌜ r ≡ noZero (now (s .entry)) ⌝ }
-{
-    let mut ok = true;
-    let mut i: usize = 0;
-    while i < s.len() {
-        ok = both(ok, s[i] != 0);
-        i += 1;
-    }
-    ok
-}
-
 // Whether a block is 00 02, 203 nonzero bytes, 00, and fifty bytes.
 fn formed(b: &[u8]) -> bool
     requires { ⌜ length (now b) ≡ 256 ⌝ }
     ensures { λ r. ⌜ r ≡ formed (now (b .entry)) ⌝ }
 {
-    let pads = no_zero(part_of(b, 2, 203));
+    let pads = frame::no_zero(part_of(b, 2, 203), 0);
     let end = both(pads, b[205] == 0);
     both(b[0] == 0, both(b[1] == 2, end))
 }

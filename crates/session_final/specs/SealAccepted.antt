@@ -2,14 +2,14 @@
 use mathlib.Core.Path.{_≡_, sym, ap, _∙_}
 use mathlib.Core.Bool.{Bool, true}
 use mathlib.Core.List.{List}
-use Prim.Native.Nat.{ℕ, suc, _+_, _-_, _%_, _<_, _≤_}
+use Prim.Native.Nat.{ℕ, _+_, _-_, _%_, _<_, _≤_}
 use native.Mathlib.Omega.{arith}
 use borrow.Author.Tests.{eq-eqb, lt-ltb, le-leb}
 use lib.ListN.{length}
 use Rattle.octets.specs.Lists.{part}
 use Rattle.octets.specs.Same.{same-of}
 use Rattle.padding.specs.Method2.{padded, end, rightly}
-use Rattle.padding.specs.Laws.{Seen, seen, unpadded-padded}
+use Rattle.padding.specs.Laws.{seen, unpadded-padded, rightly-seen}
 use Rattle.plaid_types.specs.declared.KeySetId.{KeySetId}
 use Rattle.plaid_types.specs.declared.Session.{Session}
 use Rattle.plaid_types.specs.declared.Card.{Card}
@@ -19,20 +19,6 @@ use Rattle.reader_seal.specs.Laws.{length-keysHash}
 use Rattle.session_final.specs.SealFrame.{seal-data-whole}
 use Rattle.session_final.specs.Buffer.{padded-hash}
 use Rattle.session_final.specs.SealText.{SharedSession, sealed, sealedText, length-sealedText, seal-deciphered, seal-mode, seal-keysHash}
-
--- a text that unpadding has seen to end after n bytes is rightly padded
-rightly-seen : (s : List ℕ) (n : ℕ) → Seen s n → rightly s ≡ true
-unfolding rightly
-rightly-seen s n k =
-    let p : suc n - 1 ≡ n = omega arith in
-    simp (
-      k .ends,
-      eq-eqb (length s % 16) 0 (k .whole),
-      lt-ltb 0 (suc n) (omega arith),
-      p,
-      k .one,
-      lt-ltb (length s) (suc n + 16) (omega (arith, k .last)),
-    )
 
 -- so is a padded text, and it ends where the text does
 rightly-padded : (s : List ℕ) → rightly (padded s) ≡ true

@@ -26,14 +26,8 @@ returns-2 c =
 numbers-requires : tie.Need-numbers-requires
 numbers-requires c κs = search needs
 
-array-share-prefix-all : tie.Need-array-share-prefix-all
-array-share-prefix-all c = search needs
-
-slice-aggregate-given : tie.Need-slice-aggregate-given
-slice-aggregate-given c =
-    let a = c .before .before .before .before .before .args in
-    let l : length (a .ids) ≡ 16 = search needs in
-    sym (ap (λ x. length (take (a .count) x)) (c .before .numbers .ensures) ∙ length-given (a .ids) (a .count) l (c .before .before .if2 .left))
+slice-aggregate-repeats : tie.Need-slice-aggregate-repeats
+slice-aggregate-repeats c = search needs
 
 repeats-requires : tie.Need-repeats-requires
 repeats-requires c κs = search needs
@@ -63,11 +57,20 @@ returns-4 c =
     out-short (a .ids) (a .count) (a .out .now) l (c .before .before .before .before .before .before .before .if1 .left) (c .before .before .before .before .before .before .if2 .left)
     (found (a .ids) (a .count) (c .before .before .before .before .before .numbers .ensures) (c .before .before .before .repeats .ensures) (c .before .before .if3 .left)) (c .before .if4 .taken) (c .declined4 .ensures)
 
-command-requires : tie.Need-command-requires
-command-requires c κs =
+array-share-prefix-all : tie.Need-array-share-prefix-all
+array-share-prefix-all c = search needs
+
+slice-aggregate-given : tie.Need-slice-aggregate-given
+slice-aggregate-given c =
     let a = c .before .before .before .before .before .before .before .before .before .args in
     let l : length (a .ids) ≡ 16 = search needs in
-    let k = ap (λ x. length (take (a .count) x)) (c .before .before .before .before .before .numbers .ensures) ∙ length-given (a .ids) (a .count) l (c .before .before .before .before .before .before .if2 .left) in
+    sym (ap (λ x. length (take (a .count) x)) (c .before .before .before .before .before .numbers .ensures) ∙ length-given (a .ids) (a .count) l (c .before .before .before .before .before .before .if2 .left))
+
+command-requires : tie.Need-command-requires
+command-requires c κs =
+    let a = c .before .before .before .before .before .before .before .before .before .before .args in
+    let l : length (a .ids) ≡ 16 = search needs in
+    let k = ap (λ x. length (take (a .count) x)) (c .before .before .before .before .before .before .numbers .ensures) ∙ length-given (a .ids) (a .count) l (c .before .before .before .before .before .before .before .if2 .left) in
     (omega (arith, k), omega (arith, k))
 
 same-length : tie.Need-same-length
@@ -75,11 +78,11 @@ same-length c = search needs
 
 returns-5 : tie.Need-returns-5
 returns-5 c =
-    let a = c .before .before .before .before .before .before .before .before .before .before .before .before .args in
+    let a = c .before .before .before .before .before .before .before .before .before .before .before .before .before .args in
     let l : length (a .ids) ≡ 16 = search needs in
-    command-made (a .ids) (a .count) (a .out .now) l (c .before .before .before .before .before .before .before .before .before .before .if1 .left) (c .before .before .before .before .before .before .before .before .before .if2 .left)
-    (found (a .ids) (a .count) (c .before .before .before .before .before .before .before .before .numbers .ensures) (c .before .before .before .before .before .before .repeats .ensures) (c .before .before .before .before .before .if3 .left)) (c .before .before .before .before .if4 .left)
-    (c .before .before .before .before .before .before .before .before .numbers .ensures) (c .before .before .command .ensures .0) (c .before .before .command .ensures .1)
+    command-made (a .ids) (a .count) (a .out .now) l (c .before .before .before .before .before .before .before .before .before .before .before .if1 .left) (c .before .before .before .before .before .before .before .before .before .before .if2 .left)
+    (found (a .ids) (a .count) (c .before .before .before .before .before .before .before .before .before .numbers .ensures) (c .before .before .before .before .before .before .before .repeats .ensures) (c .before .before .before .before .before .before .if3 .left)) (c .before .before .before .before .before .if4 .left)
+    (c .before .before .before .before .before .before .before .before .before .numbers .ensures) (c .before .before .command .ensures .0) (c .before .before .command .ensures .1)
 
 pub list-spec : {M : Type 1} → statement M
 list-spec =
@@ -90,8 +93,7 @@ list-spec =
     declined-requires-2
     returns-2
     numbers-requires
-    array-share-prefix-all
-    slice-aggregate-given
+    slice-aggregate-repeats
     repeats-requires
     declined-requires-3
     returns-3
@@ -99,6 +101,8 @@ list-spec =
     add-if4
     declined-requires-4
     returns-4
+    array-share-prefix-all
+    slice-aggregate-given
     command-requires
     same-length
     returns-5)
