@@ -17,8 +17,8 @@ use Rattle.initial.specs.Initial.{initialSteps, slotOf, acceptsInitial, refused
 use Rattle.initial.specs.Laws.{initial-counted, initial-length, initial-rnd1}
 use Rattle.octets.specs.Lists.{part, over}
 use Rattle.aes.specs.Aes.{aes}
-use Rattle.cbc.specs.Cbc.{encrypted}
-use Rattle.final_command.specs.Final.{zeros, sizeOf, acceptsFinal, replyKey, replyText, replyBuffer, finalBytes, finalReply}
+use Rattle.cbc.specs.Cbc.{encrypted, zeros}
+use Rattle.final_command.specs.Final.{sizeOf, acceptsFinal, replyKey, replyText, replyBuffer, finalBytes, finalReply}
 use Rattle.final_command.specs.Laws.{final-length, final-comparisons, final-decipherments, final-encipherments, final-expansions, final-hash-blocks, size-loaded, rnd1-length}
 use Rattle.plaid_types.specs.Cards.{noSession, withSession, Reply}
 use Rattle.plaid_types.specs.declared.Session.{Session}

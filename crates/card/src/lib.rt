@@ -11,7 +11,6 @@ ghost use Prim.Native.Nat.{_-_, _≤_};
 ghost use lib.ListN.{length};
 ghost use Rattle.octets.specs.Lists.{over};
 ghost use Rattle.frame.specs.Frame.{dataOf};
-ghost use Rattle.plaid_types.specs.Cards.{withSession, noSession};
 ghost use Rattle.card.specs.Command.{declined, outcome, answerBytes};
 ghost use Rattle.card.specs.After.{afterInitial, afterFinal};
 

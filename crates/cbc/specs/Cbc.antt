@@ -1,7 +1,7 @@
 -- SP 800-38A, section 6.2: the cipher block chaining mode. CIPH is any function of blocks: the length of its key is no matter of CBC.
 use mathlib.Core.List.{List, [], _++_}
 use Prim.Native.Nat.{ℕ, zero, suc, _*_, _/_}
-use lib.ListN.{length, drop}
+use lib.ListN.{length, drop, replicate}
 use Rattle.octets.specs.Bytes.{xorBlock}
 use Rattle.octets.specs.Lists.{part}
 
@@ -9,6 +9,10 @@ use Rattle.octets.specs.Lists.{part}
 infixl 65 _⊕_
 unfoldable pub _⊕_ : List ℕ → List ℕ → List ℕ
 x ⊕ y = xorBlock x y
+
+-- document 01: "CBC starts from sixteen zero bytes."
+abbrev pub zeros : List ℕ
+zeros = replicate 16 0
 
 -- CBC encryption: "C1 = CIPHK(P1 ⊕ IV); Cj = CIPHK(Pj ⊕ Cj−1) for j = 2 … n", of the n blocks that s begins with
 unfoldable pub encrypted : (List ℕ → List ℕ) → List ℕ → ℕ → List ℕ → List ℕ

@@ -15,7 +15,7 @@ use Rattle.aes.specs.RoundTrip.{length-aes}
 use Rattle.sha256.specs.Hash.{sha256}
 use Rattle.work.specs.Steps.{Step, comparison, decipherment, encipherment, expansion, hashBlock, bytesOf, mixedAll, sumFrom, counted, workSum}
 use Rattle.work.specs.Laws.{sumFrom-append, counted-append}
-use Rattle.cbc.specs.Cbc.{encrypted, decrypted, encryptedWhole, decryptedWhole}
+use Rattle.cbc.specs.Cbc.{encrypted, decrypted, encryptedWhole, decryptedWhole, zeros}
 use Rattle.cbc.specs.Steps.{enciphered, deciphered, made}
 use Rattle.cbc.specs.Laws.{counted-enciphered}
 use Rattle.cbc.specs.declared.Made.{Made}
@@ -25,7 +25,7 @@ use Rattle.steps.specs.declared.Hashing.{Hashing}
 use Rattle.plaid_types.specs.Cards.{noMode}
 use Rattle.plaid_types.specs.declared.ModeSlot.{ModeSlot}
 use Rattle.plaid_types.specs.declared.Card.{Card}
-use Rattle.final_command.specs.Final.{zeros, faKeyOf, rnd1Of, diversified, blocksIn, textOf, hashedOf, keysHash, opMode, modeSteps, firstMode, modeOf, decipheredText, accepting, acceptsFinal, replyKey, sizeOf, replyText, replyBuffer, finalBytes, finalSteps, finalReply}
+use Rattle.final_command.specs.Final.{faKeyOf, rnd1Of, diversified, blocksIn, textOf, hashedOf, keysHash, opMode, modeSteps, firstMode, modeOf, decipheredText, accepting, acceptsFinal, replyKey, sizeOf, replyText, replyBuffer, finalBytes, finalSteps, finalReply}
 use Rattle.final_command.specs.Told.{toldFinal}
 use Rattle.final_command.specs.Parts.{divSteps, textSteps, openedText, replySteps, sent, bufferOf}
 use Rattle.final_command.specs.Laws.{final-length, counted-modes}

@@ -11,10 +11,11 @@ use Rattle.work.specs.Steps.{Step, comparison, decipherment, encipherment, expa
 use Rattle.work.specs.Laws.{sumFrom-append, counted-append}
 use Rattle.cbc.specs.Steps.{enciphered, deciphered}
 use Rattle.cbc.specs.Laws.{counted-enciphered, other-enciphered, other-deciphered}
+use Rattle.cbc.specs.Cbc.{zeros}
 use Rattle.steps.specs.Made.{expansionStep, hashSteps}
 use Rattle.steps.specs.Laws.{counted-hash}
 use Rattle.plaid_types.specs.declared.Card.{Card}
-use Rattle.final_command.specs.Final.{zeros, faKeyOf, diversified, blocksIn, hashedOf, sizeOf}
+use Rattle.final_command.specs.Final.{faKeyOf, diversified, blocksIn, hashedOf, sizeOf}
 use Rattle.final_command.specs.Parts.{divSteps, textSteps, replySteps}
 
 pub sum-four : (s : ℕ) (a b c d : List Step) → sumFrom s (a ++ b ++ c ++ d) ≡ sumFrom (sumFrom (sumFrom (sumFrom s a) b) c) d

@@ -10,17 +10,13 @@ use Rattle.aes.specs.Aes.{aes, invAes}
 use Rattle.sha256.specs.Hash.{sha256}
 use Rattle.padding.specs.Method2.{padded, end, rightly}
 use Rattle.work.specs.Steps.{Step}
-use Rattle.cbc.specs.Cbc.{encrypted, decrypted}
+use Rattle.cbc.specs.Cbc.{encrypted, decrypted, zeros}
 use Rattle.cbc.specs.Steps.{encipherStep, enciphered, deciphered}
 use Rattle.steps.specs.Made.{matched, comparisonStep, expansionStep, hashSteps}
 use Rattle.plaid_types.specs.Cards.{noSession, noMode, Reply}
 use Rattle.plaid_types.specs.declared.KeySetSlot.{KeySetSlot}
 use Rattle.plaid_types.specs.declared.ModeSlot.{ModeSlot}
 use Rattle.plaid_types.specs.declared.Card.{Card}
-
--- sixteen zero bytes
-abbrev pub zeros : List ℕ
-zeros = replicate 16 0
 
 abbrev pub least : ℕ → ℕ → ℕ
 least a b = cond (ltb a b) a b

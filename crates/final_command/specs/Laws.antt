@@ -13,14 +13,14 @@ use Rattle.aes.specs.RoundTrip.{length-aes}
 use Rattle.sha256.specs.Parsing.{blocks}
 use Rattle.work.specs.Steps.{comparison, decipherment, encipherment, expansion, hashBlock, counted}
 use Rattle.work.specs.Laws.{counted-append, times-none, times-more}
-use Rattle.cbc.specs.Cbc.{decrypted}
+use Rattle.cbc.specs.Cbc.{decrypted, zeros}
 use Rattle.cbc.specs.Steps.{enciphered, deciphered}
 use Rattle.cbc.specs.Lengths.{length-encrypted}
 use Rattle.steps.specs.Made.{hashStep, hashSteps}
 use Rattle.steps.specs.Laws.{blocks-one}
 use Rattle.plaid_types.specs.declared.ModeSlot.{ModeSlot}
 use Rattle.plaid_types.specs.declared.Card.{Card}
-use Rattle.final_command.specs.Final.{zeros, rnd1Of, diversified, blocksIn, textOf, hashedOf, modeSteps, replyKey, sizeOf, replyBuffer, finalBytes, finalSteps, finalReply}
+use Rattle.final_command.specs.Final.{rnd1Of, diversified, blocksIn, textOf, hashedOf, modeSteps, replyKey, sizeOf, replyBuffer, finalBytes, finalSteps, finalReply}
 
 -- "Answer length: .. 16B"
 pub final-length : (c : Card) (d fresh : List ℕ) → length (finalReply c d fresh .bytes) ≡ 16 * sizeOf c

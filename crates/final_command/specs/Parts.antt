@@ -6,9 +6,10 @@ use Rattle.octets.specs.Lists.{over}
 use Rattle.aes.specs.Aes.{aes, invAes}
 use Rattle.work.specs.Steps.{Step, decipherment, encipherment, expansion, hashBlock, counted, sumFrom}
 use Rattle.cbc.specs.Steps.{encipherStep, enciphered, deciphered}
+use Rattle.cbc.specs.Cbc.{zeros}
 use Rattle.steps.specs.Made.{expansionStep, hashSteps}
 use Rattle.plaid_types.specs.declared.Card.{Card}
-use Rattle.final_command.specs.Final.{zeros, faKeyOf, diversified, blocksIn, textOf, hashedOf, keysHash}
+use Rattle.final_command.specs.Final.{faKeyOf, diversified, blocksIn, textOf, hashedOf, keysHash}
 use Rattle.final_command.specs.declared.Opened.{Opened}
 use Rattle.final_command.specs.declared.Sent.{Sent}
 

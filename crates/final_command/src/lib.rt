@@ -16,11 +16,11 @@ ghost use Rattle.aes.specs.Aes.{aes};
 ghost use Rattle.sha256.specs.Hash.{sha256};
 ghost use Rattle.padding.specs.Method2.{rightly, end};
 ghost use Rattle.work.specs.Steps.{comparison, decipherment, encipherment, expansion, hashBlock, counted, sumFrom};
-ghost use Rattle.cbc.specs.Cbc.{encrypted, decrypted};
+ghost use Rattle.cbc.specs.Cbc.{encrypted, decrypted, zeros};
 ghost use Rattle.cbc.specs.Steps.{deciphered};
 ghost use Rattle.steps.specs.Made.{matched, hashSteps};
 ghost use Rattle.plaid_types.specs.Cards.{noMode};
-ghost use Rattle.final_command.specs.Final.{zeros, least, keyOf, faKeyOf, blocksIn, opMode, modeSteps, firstMode, accepting, recordOf, sizeOf, replyText, finalReply};
+ghost use Rattle.final_command.specs.Final.{least, keyOf, faKeyOf, blocksIn, opMode, modeSteps, firstMode, accepting, recordOf, sizeOf, replyText, finalReply};
 ghost use Rattle.final_command.specs.Parts.{divSteps, openedText, bufferOf, sent};
 ghost use Rattle.final_command.specs.Told.{toldFinal};
 
@@ -190,18 +190,10 @@ fn compare_modes(modes: [ModeSlot; 16], v: u16, sum: u32) -> Found
     }
 }
 
-fn wide(b: u8) -> u16
-    ensures { λ r. ⌜ (r ≡ b) × (r < 256) ⌝ }
-{
-    b as u16
-}
-
 fn op_mode(text: [u8; 240]) -> u16
     ensures { λ r. ⌜ r ≡ opMode text ⌝ }
 {
-    let high = wide(text[0]);
-    let low = wide(text[1]);
-    high * 256 + low
+    octets::word(text[0], text[1])
 }
 
 // A text of t bytes ends with KeysHash.
@@ -221,15 +213,9 @@ fn sealed(s: &[u8], hash: [u8; 16], held: bool) -> bool
 {
     let u = padding::unpad(s);
     match u {
-        padding::Unpadded::Text(t) => both(ends_with(s, t, hash), held),
+        padding::Unpadded::Text(t) => octets::both(ends_with(s, t, hash), held),
         padding::Unpadded::Malformed => false,
     }
-}
-
-fn both(a: bool, b: bool) -> bool
-    ensures { λ r. ⌜ r ≡ (a && b) ⌝ }
-{
-    if a { b } else { false }
 }
 
 fn accepts(opened: bool, lc: usize, text: [u8; 240], hash: [u8; 16], mode: usize) -> bool
@@ -238,7 +224,7 @@ fn accepts(opened: bool, lc: usize, text: [u8; 240], hash: [u8; 16], mode: usize
 {
     let n = 16 * (lc / 16);
     let good = sealed(&text[..n], hash, mode < 16);
-    both(opened, both(lc % 16 == 0, good))
+    octets::both(opened, octets::both(lc % 16 == 0, good))
 }
 
 fn mode_at(modes: [ModeSlot; 16], at: usize) -> ModeSlot

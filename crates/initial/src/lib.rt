@@ -4,7 +4,7 @@ use plaid_types::Card;
 use plaid_types::KeySetSlot;
 use plaid_types::Session;
 ghost use mathlib.Core.Path.{_≡_};
-ghost use mathlib.Core.Bool.{_&&_, cond};
+ghost use mathlib.Core.Bool.{cond};
 ghost use Prim.Native.Nat.{_<_, _≤_};
 ghost use lib.Dec.{eqb};
 ghost use lib.ListN.{length};
@@ -44,12 +44,6 @@ fn compare_slots(sets: [KeySetSlot; 8], present: bool, v: u16, sum: u32) -> Foun
     }
 }
 
-fn both(a: bool, b: bool) -> bool
-    ensures { λ r. ⌜ r ≡ (a && b) ⌝ }
-{
-    if a { b } else { false }
-}
-
 // The first entry that the card holds wins, not the first slot.
 fn first_of(at: usize, f: usize) -> usize
     ensures { λ r. ⌜ r ≡ cond (eqb at 8) f at ⌝ }
@@ -71,7 +65,7 @@ fn compare_places(sets: [KeySetSlot; 8], d: &[u8]) -> Found
     let mut j: usize = 0;
     while j < n {
         let e = list::step_from(d, p);
-        let f = compare_slots(sets, both(l.formed, e.ok), e.id, s);
+        let f = compare_slots(sets, octets::both(l.formed, e.ok), e.id, s);
         s = f.sum;
         count += f.count;
         at = first_of(at, f.at);

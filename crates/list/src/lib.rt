@@ -1,6 +1,6 @@
 //! The list of an initial command: SEQUENCE OF OCTET STRING of size 2.
 ghost use mathlib.Core.Path.{_≡_};
-ghost use Prim.Native.Nat.{_+_, _*_};
+ghost use Prim.Native.Nat.{_+_};
 ghost use Rattle.list.specs.Ber.{lengthAt, entryAt, head, walked, listed, noLength, noEntry};
 
 pub struct Length {
@@ -64,13 +64,6 @@ fn no_entry(at: usize) -> Entry
     }
 }
 
-// Two bytes as a number, the high one first.
-fn word(high: u8, low: u8) -> u16
-    ensures { λ r. ⌜ r ≡ high * 256 + low ⌝ }
-{
-    (high as u16) * 256 + (low as u16)
-}
-
 // The entry at a place: tag 04, length 2, KeySetID.
 fn entry_at(d: &[u8], at: usize) -> Entry
     ensures { λ r. ⌜ r ≡ entryAt (now (d .entry)) at ⌝ }
@@ -96,7 +89,7 @@ fn entry_at(d: &[u8], at: usize) -> Entry
     let low = d[p + 1];
     Entry {
         ok: true,
-        id: word(high, low),
+        id: octets::word(high, low),
         next: p + 2,
     }
 }

@@ -1,9 +1,8 @@
 //! Bytes in blocks of sixteen.
 ghost use mathlib.Core.Path.{_≡_};
-ghost use Prim.Native.Nat.{_+_, _≤_};
+ghost use Prim.Native.Nat.{_+_, _*_, _≤_};
 ghost use lib.ListN.{length};
 ghost use mathlib.Core.Bool.{_&&_};
-ghost use lib.Dec.{eqb};
 ghost use Rattle.octets.specs.Bytes.{xorBlock, same};
 ghost use Rattle.octets.specs.Lists.{part, over};
 
@@ -46,10 +45,11 @@ pub fn copy_at(d: &mut [u8], at: usize, s: &[u8])
     }
 }
 
-fn also(a: bool, x: u8, y: u8) -> bool
-    ensures { λ r. ⌜ r ≡ (a && eqb x y) ⌝ }
+// Both tests are made, whatever the first says: `&&` would leave the second out.
+pub fn both(a: bool, b: bool) -> bool
+    ensures { λ r. ⌜ r ≡ (a && b) ⌝ }
 {
-    if a { x == y } else { false }
+    if a { b } else { false }
 }
 
 // Whether two blocks are equal. Every byte is looked at.
@@ -59,8 +59,15 @@ pub fn equal(a: [u8; 16], b: [u8; 16]) -> bool
     let mut r = true;
     let mut i: usize = 0;
     while i < 16 {
-        r = also(r, a[i], b[i]);
+        r = both(r, a[i] == b[i]);
         i += 1;
     }
     r
+}
+
+// Two bytes as a number, the high one first.
+pub fn word(high: u8, low: u8) -> u16
+    ensures { λ r. ⌜ r ≡ high * 256 + low ⌝ }
+{
+    (high as u16) * 256 + (low as u16)
 }

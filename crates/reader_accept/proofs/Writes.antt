@@ -11,9 +11,9 @@ use Rattle.octets.specs.Writes.{take-over}
 use Rattle.rounds.specs.InvCipher.{invCipher}
 use Rattle.aes.specs.KeyExpansion.{roundKeys}
 use Rattle.aes.specs.Aes.{invAes}
-use Rattle.cbc.specs.Cbc.{decryptedWhole}
+use Rattle.cbc.specs.Cbc.{decryptedWhole, zeros}
 use Rattle.cbc.specs.Laws.{decrypted-all}
-use Rattle.reader_accept.specs.Accept.{zeros, decipheredText}
+use Rattle.reader_accept.specs.Accept.{decipheredText}
 use Rattle.reader_accept.specs.Laws.{length-text}
 
 pub behind : (d s : List ℕ) (n : ℕ) → length s ≡ n → drop n (over d 0 s) ≡ drop n d

@@ -8,12 +8,8 @@ use Rattle.octets.specs.Bytes.{same}
 use Rattle.octets.specs.Lists.{part, over}
 use Rattle.aes.specs.Aes.{invAes}
 use Rattle.padding.specs.Method2.{end, rightly}
-use Rattle.cbc.specs.Cbc.{decrypted}
+use Rattle.cbc.specs.Cbc.{decrypted, zeros}
 use Rattle.reader_accept.specs.declared.Accepted.{Accepted}
-
--- sixteen zero bytes
-abbrev pub zeros : List ℕ
-zeros = replicate 16 0
 
 -- "Decipher under KeysHash into a work buffer": the blocks of the response, by CBC from sixteen zero bytes on
 unfoldable pub decipheredText : List ℕ → List ℕ → List ℕ

@@ -9,7 +9,8 @@ use lib.Dec.{eqb}
 use lib.ListN.{length}
 use Rattle.aes.specs.Aes.{invAes}
 use Rattle.cbc.specs.Lengths.{length-decrypted}
-use Rattle.reader_accept.specs.Accept.{zeros, decipheredText, knownLength}
+use Rattle.cbc.specs.Cbc.{zeros}
+use Rattle.reader_accept.specs.Accept.{decipheredText, knownLength}
 
 -- the lengths of a response are whole blocks, and at most 96
 pub record Known (n : ℕ) : Type 0 where

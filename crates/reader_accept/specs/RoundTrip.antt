@@ -16,10 +16,10 @@ use Rattle.aes.specs.RoundTrip.{length-aes}
 use Rattle.padding.specs.Method2.{blocksFor, zeroBytes, padded, unpadded, rightly}
 use Rattle.padding.specs.Laws.{length-padded, unpadded-padded, padded-bytes}
 use Rattle.padding.specs.declared.Unpadded.the-variants.{Text, Malformed}
-use Rattle.cbc.specs.Cbc.{encrypted, decrypted}
+use Rattle.cbc.specs.Cbc.{encrypted, decrypted, zeros}
 use Rattle.cbc.specs.Aes.{decrypted-encrypted-aes}
 use Rattle.cbc.specs.Lengths.{length-encrypted}
-use Rattle.reader_accept.specs.Accept.{zeros, decipheredText, textLength, rightBody, authenticated, recordLength, knownLength, acceptNumber, acceptedOf, workAfter, recordPart}
+use Rattle.reader_accept.specs.Accept.{decipheredText, textLength, rightBody, authenticated, recordLength, knownLength, acceptNumber, acceptedOf, workAfter, recordPart}
 
 -- "the reply is record, DivData and padding", enciphered by CBC under KeysHash: the answer of a card that accepted
 abbrev pub cardReply : List ℕ → List ℕ → List ℕ → List ℕ

@@ -1,9 +1,8 @@
 //! The reader's Open: the platform's decrypted blocks, one for each listed entry.
 use plaid_types::KeySetId;
 ghost use mathlib.Core.Path.{_≡_};
-ghost use mathlib.Core.Bool.{_&&_};
 ghost use Prim.Native.Nat.{_+_, _*_, _≤_};
-ghost use lib.ListN.{length, take};
+ghost use lib.ListN.{length};
 ghost use Rattle.octets.specs.Lists.{part};
 ghost use Rattle.reader_open.specs.Open.{formed, idOf, agrees, opensAs, winner, numberAlone, openedAt, opened};
 
@@ -37,33 +36,21 @@ fn part_of(s: &[u8], at: usize, n: usize) -> &[u8]
     &s[at..end]
 }
 
-fn both(a: bool, b: bool) -> bool
-    ensures { λ r. ⌜ r ≡ (a && b) ⌝ }
-{
-    if a { b } else { false }
-}
-
 // Whether a block is 00 02, 203 nonzero bytes, 00, and fifty bytes.
 fn formed(b: &[u8]) -> bool
     requires { ⌜ length (now b) ≡ 256 ⌝ }
     ensures { λ r. ⌜ r ≡ formed (now (b .entry)) ⌝ }
 {
     let pads = frame::no_zero(part_of(b, 2, 203), 0);
-    let end = both(pads, b[205] == 0);
-    both(b[0] == 0, both(b[1] == 2, end))
-}
-
-fn wide(b: u8) -> u16
-    ensures { λ r. ⌜ r ≡ b ⌝ }
-{
-    b as u16
+    let end = octets::both(pads, b[205] == 0);
+    octets::both(b[0] == 0, octets::both(b[1] == 2, end))
 }
 
 fn id_of(t: &[u8]) -> u16
     requires { ⌜ 2 ≤ length (now t) ⌝ }
     ensures { λ r. ⌜ r ≡ idOf (now (t .entry)) ⌝ }
 {
-    wide(t[0]) * 256 + wide(t[1])
+    octets::word(t[0], t[1])
 }
 
 // Whether the fifty bytes have this KeySetID, and RND1 twice.
@@ -72,7 +59,7 @@ fn agrees(t: &[u8], id: u16) -> bool
     ensures { λ r. ⌜ r ≡ agrees id (now (t .entry)) ⌝ }
 {
     let twice = octets::equal(octets::block_at(t, 18), octets::block_at(t, 34));
-    both(id_of(t) == id, twice)
+    octets::both(id_of(t) == id, twice)
 }
 
 fn opens(b: &[u8], id: u16) -> bool
@@ -80,7 +67,7 @@ fn opens(b: &[u8], id: u16) -> bool
     ensures { λ r. ⌜ r ≡ opensAs id (now (b .entry)) ⌝ }
 {
     let rest = agrees(part_of(b, 206, 50), id);
-    both(formed(b), rest)
+    octets::both(formed(b), rest)
 }
 
 // The first that opens, of n; n where none does. Every block is examined.

@@ -15,9 +15,9 @@ use Rattle.aes.specs.KeyExpansion.{roundKeys}
 use Rattle.aes.specs.Aes.{aes}
 use Rattle.padding.specs.Method2.{blocksFor, padded, padBuffer}
 use Rattle.padding.specs.Laws.{length-padded}
-use Rattle.cbc.specs.Cbc.{encryptedWhole}
+use Rattle.cbc.specs.Cbc.{encryptedWhole, zeros}
 use Rattle.cbc.specs.Laws.{encrypted-all}
-use Rattle.reader_seal.specs.Seal.{zeros, str2, sealedBlocks, lcOf, sealedData, finalCommand}
+use Rattle.reader_seal.specs.Seal.{str2, sealedBlocks, lcOf, sealedData, finalCommand}
 use Rattle.reader_seal.specs.Laws.{length-str2}
 
 -- what fills a buffer leaves nothing of it

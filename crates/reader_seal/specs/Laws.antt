@@ -10,7 +10,8 @@ use Rattle.aes.specs.RoundTrip.{length-aes}
 use Rattle.sha256.specs.Hash.{sha256, digestBytes}
 use Rattle.padding.specs.Method2.{padded}
 use Rattle.cbc.specs.Lengths.{length-encrypted}
-use Rattle.reader_seal.specs.Seal.{zeros, keysHashOf, diversifiedBy, str2, sealedBlocks, lcOf, sealedData, finalCommand, sealCommand}
+use Rattle.cbc.specs.Cbc.{zeros}
+use Rattle.reader_seal.specs.Seal.{keysHashOf, diversifiedBy, str2, sealedBlocks, lcOf, sealedData, finalCommand, sealCommand}
 
 length-sha256 : (m : List ℕ) → length (sha256 m) ≡ 32
 unfolding sha256 digestBytes

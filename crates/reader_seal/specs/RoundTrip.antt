@@ -17,9 +17,9 @@ use Rattle.sha256.specs.Parsing.{blocks}
 use Rattle.padding.specs.Method2.{blocksFor, zeroBytes, padded, unpadded}
 use Rattle.padding.specs.Laws.{length-padded, unpadded-padded, padded-bytes}
 use Rattle.padding.specs.declared.Unpadded.the-variants.{Text}
-use Rattle.cbc.specs.Cbc.{decrypted}
+use Rattle.cbc.specs.Cbc.{decrypted, zeros}
 use Rattle.cbc.specs.Aes.{decrypted-encrypted-aes}
-use Rattle.reader_seal.specs.Seal.{zeros, keysHashOf, diversifiedBy, str2, sealedBlocks, lcOf, sealedData, finalCommand, sealCommand}
+use Rattle.reader_seal.specs.Seal.{keysHashOf, diversifiedBy, str2, sealedBlocks, lcOf, sealedData, finalCommand, sealCommand}
 use Rattle.reader_seal.specs.Laws.{length-keysHash, length-str2, length-sealedData}
 
 word-bytes : (x : ℕ) → Bytes (wordBytes x)

@@ -3,17 +3,13 @@ use mathlib.Core.Bool.{cond}
 use mathlib.Core.List.{List, [], _∷_, _++_}
 use Prim.Native.Nat.{ℕ, _+_, _*_, _/_, _%_}
 use lib.Dec.{eqb, ltb}
-use lib.ListN.{length, replicate}
+use lib.ListN.{length}
 use Rattle.octets.specs.Lists.{part, over}
 use Rattle.aes.specs.Aes.{aes}
 use Rattle.sha256.specs.Hash.{sha256}
 use Rattle.padding.specs.Method2.{blocksFor, padded}
-use Rattle.cbc.specs.Cbc.{encrypted}
+use Rattle.cbc.specs.Cbc.{encrypted, zeros}
 use Rattle.reader_seal.specs.declared.Sealed.{Sealed}
-
--- sixteen zero bytes
-abbrev pub zeros : List ℕ
-zeros = replicate 16 0
 
 -- "KeysHash is the first 16 bytes of the hash", which is that of RND1 and RND2
 unfoldable pub keysHashOf : List ℕ → List ℕ → List ℕ

@@ -1,1 +1,1 @@
-ghost use mathlib.Core.Path.{_≡_};
+//! The session promise of demand 2, whole, and the edges of document 01. No code: definitions and theorems in `specs/`.

@@ -13,7 +13,7 @@ use Rattle.octets.specs.Writes.{over-front}
 use Rattle.aes.specs.Aes.{aes}
 use Rattle.padding.specs.Method2.{blocksFor, padded}
 use Rattle.padding.specs.Laws.{length-padded}
-use Rattle.cbc.specs.Cbc.{encrypted}
+use Rattle.cbc.specs.Cbc.{encrypted, zeros}
 use Rattle.cbc.specs.Laws.{encrypted-front}
 use Rattle.steps.specs.Made.{matched}
 use Rattle.plaid_types.specs.Cards.{noMode}
@@ -21,7 +21,7 @@ use Rattle.plaid_types.specs.declared.KeySetId.{KeySetId}
 use Rattle.plaid_types.specs.declared.ModeSlot.{ModeSlot}
 use Rattle.plaid_types.specs.declared.Card.{Card}
 use Rattle.load.specs.Laws.{modeAt, GoodRecord, Stocked}
-use Rattle.final_command.specs.Final.{zeros, keysHash, firstMode, modeOf, acceptsFinal, replyKey, recordOf, sizeOf, replyText, replyBuffer, finalBytes, finalReply}
+use Rattle.final_command.specs.Final.{keysHash, firstMode, modeOf, acceptsFinal, replyKey, recordOf, sizeOf, replyText, replyBuffer, finalBytes, finalReply}
 use Rattle.final_command.specs.Laws.{size-loaded, least-is}
 use Rattle.reader_seal.specs.Seal.{keysHashOf}
 use Rattle.session_final.specs.SealText.{SharedSession, sealed, seal-keysHash}

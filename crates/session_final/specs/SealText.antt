@@ -12,12 +12,12 @@ use Rattle.aes.specs.Aes.{aes, invAes}
 use Rattle.sha256.specs.Hash.{sha256}
 use Rattle.padding.specs.Method2.{blocksFor, padded}
 use Rattle.padding.specs.Laws.{length-padded}
-use Rattle.cbc.specs.Cbc.{decrypted}
+use Rattle.cbc.specs.Cbc.{decrypted, zeros}
 use Rattle.frame.specs.Frame.{dataOf}
 use Rattle.plaid_types.specs.declared.KeySetId.{KeySetId}
 use Rattle.plaid_types.specs.declared.Session.{Session}
 use Rattle.plaid_types.specs.declared.Card.{Card}
-use Rattle.final_command.specs.Final.{zeros, faKeyOf, rnd1Of, diversified, blocksIn, textOf, hashedOf, keysHash, opMode, decipheredText}
+use Rattle.final_command.specs.Final.{faKeyOf, rnd1Of, diversified, blocksIn, textOf, hashedOf, keysHash, opMode, decipheredText}
 use Rattle.reader_seal.specs.Seal.{keysHashOf, diversifiedBy, str2, sealedBlocks, lcOf, sealCommand}
 use Rattle.reader_seal.specs.Laws.{length-keysHash, length-str2, length-sealCommand}
 use Rattle.reader_seal.specs.RoundTrip.{deciphered-str2}

@@ -1,1 +1,1 @@
-ghost use mathlib.Core.Path.{_≡_};
+//! The second half of the session promise: what a card answers to the command that Seal makes. No code: theorems in `specs/`.

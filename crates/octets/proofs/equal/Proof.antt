@@ -19,14 +19,14 @@ abbrev μ-loop : tie.MeasureT-loop
 loop-holds : tie.Need-loop-holds Inv-loop μ-loop
 loop-holds c = (omega arith, refl)
 
-array-read-also : tie.Need-array-read-also Inv-loop μ-loop
-array-read-also c = search needs
+array-read-both : tie.Need-array-read-both Inv-loop μ-loop
+array-read-both c = search needs
 
-array-read-also-2 : tie.Need-array-read-also-2 Inv-loop μ-loop
-array-read-also-2 c = search needs
+array-read-both-2 : tie.Need-array-read-both-2 Inv-loop μ-loop
+array-read-both-2 c = search needs
 
-also-requires : tie.Need-also-requires Inv-loop μ-loop
-also-requires c κs = search needs
+both-requires : tie.Need-both-requires Inv-loop μ-loop
+both-requires c κs = search needs
 
 add-i : tie.Need-add-i Inv-loop μ-loop
 add-i c = search needs
@@ -42,7 +42,7 @@ loop-again c =
     let la : length a ≡ 16 = search needs in
     let lb : length b ≡ 16 = search needs in (
       omega arith,
-      ap (λ (x : Bool). x && same (drop (l .i + 1) a) (drop (l .i + 1) b)) (c .also .ensures)
+      ap (λ (x : Bool). x && same (drop (l .i + 1) a) (drop (l .i + 1) b)) (c .both .ensures)
           ∙ and-assoc (l .r) (_) (same (drop (l .i + 1) a) (drop (l .i + 1) b))
           ∙ ap (λ (x : Bool). l .r && x) (sym (same-drop a b (l .i) (omega arith) (omega arith)))
           ∙ l .inv .1,
@@ -64,9 +64,9 @@ equal-spec =
     Inv-loop
     μ-loop
     loop-holds
-    array-read-also
-    array-read-also-2
-    also-requires
+    array-read-both
+    array-read-both-2
+    both-requires
     add-i
     loop-less
     loop-again
