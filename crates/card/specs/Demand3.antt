@@ -25,7 +25,7 @@ use Rattle.plaid_types.specs.declared.Session.{Session}
 use Rattle.plaid_types.specs.declared.Card.{Card}
 use Rattle.plaid_types.specs.declared.Outcome.{Outcome}
 use Rattle.card.specs.Command.{replyTo, told, declined, verdictOn, outcome, answerBytes}
-use Rattle.card.specs.Lists.{Call, outcomeOf, bytesOf, run, isInitial, nextSession, sessionAfter, stepsOf, Shape, shapeOf, initialShape, finalShape, declineShape, formulas, formulasOf, Alike, AllAlike, none, more, Agree, accepted, SameAnswer, Indistinct}
+use Rattle.card.specs.Lists.{Call, outcomeOf, bytesOf, run, cardAfter, isInitial, nextSession, sessionAfter, stepsOf, Shape, shapeOf, initialShape, finalShape, declineShape, formulas, formulasOf, Alike, AllAlike, none, more, Agree, accepted, SameAnswer, Indistinct}
 
 -- what the theorems ask of a card: what a load and every call leave true of it
 pub record Sound (c : Card) : Type 0 where
@@ -182,6 +182,12 @@ run-append c s (x ∷ xs) ys =
     (ap (λ (k : Card). run k (xs ++ ys)) (next-card c s x)
     ∙ run-append c (nextSession c s x) xs ys
     ∙ ap (λ (k : Card). run k xs ++ run (withSession c (sessionAfter c (nextSession c s x) xs)) ys) (sym (next-card c s x)))
+
+-- the card behind a list is the first one with the session after the list
+pub card-after : (c : Card) (s : Session) (xs : List Call) → cardAfter (withSession c s) xs ≡ withSession c (sessionAfter c s xs)
+unfolding cardAfter sessionAfter
+card-after c s [] = refl
+card-after c s (x ∷ xs) = ap (λ (k : Card). cardAfter k xs) (next-card c s x) ∙ card-after c (nextSession c s x) xs
 
 length-run : (c : Card) (xs : List Call) → length (run c xs) ≡ length xs
 unfolding run

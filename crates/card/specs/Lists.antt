@@ -35,6 +35,11 @@ unfoldable pub run : Card → List Call → List Outcome
 run c [] = []
 run c (x ∷ xs) = outcomeOf c x ∷ run (outcomeOf c x .card) xs
 
+-- the card that the last of them returned
+unfoldable pub cardAfter : Card → List Call → Card
+cardAfter c [] = c
+cardAfter c (x ∷ xs) = cardAfter (outcomeOf c x .card) xs
+
 -- "A command is declined by 8, 9, 10 or a fault of its frame"
 abbrev pub isDeclined : Call → Bool
 isDeclined x = not (eqb (verdictOn (x .command) (x .fresh) (x .room) .status) 0x9000)
