@@ -2,9 +2,9 @@
 use mathlib.Core.Path.{_≡_, refl, ap, _∙_}
 use mathlib.Core.Bool.{Bool, true, false, cond}
 use mathlib.Core.List.{List, _∷_, _++_, append-assoc}
-use Prim.Native.Nat.{ℕ, zero, suc, _+_, _-_, _*_, _/_, _≤_}
+use Prim.Native.Nat.{ℕ, zero, suc, _+_, _-_, _*_, _/_, _<_, _≤_}
 use native.Mathlib.Omega.{arith}
-use borrow.Author.Tests.{le-ltb, le-leb}
+use borrow.Author.Tests.{le-ltb, lt-ltb, le-leb}
 use lib.ListN.{length, take, drop, replicate, length-append}
 use lib.Seq.{take-at, drop-append-le, drop-at}
 use Rattle.octets.specs.Bytes.{Bytes, Block}
@@ -105,6 +105,11 @@ module _ (hash rec div work : List ℕ) (hh : Bytes hash) (hr : Bytes rec) (hd :
       let z : length (cardReply hash rec div) / 16 ≡ blocks = omega (arith, length-reply) in
       ap (λ (n : ℕ). decrypted (invAes 4 hash) zeros n (cardReply hash rec div)) z
       ∙ decrypted-encrypted-aes 4 hash hh zeros (padded (rec ++ div)) (zeros-bytes 16) text-bytes blocks text-blocks
+
+  -- with a work buffer that is shorter
+  pub reply-short : length work < length (cardReply hash rec div) → acceptedOf hash div (cardReply hash rec div) (length work) .number ≡ 19
+  unfolding acceptedOf acceptNumber blocks
+  reply-short s = rw (ap knownLength length-reply ∙ known-blocks (length rec) l, lt-ltb (length work) (length (cardReply hash rec div)) s)
 
   -- with a work buffer that is long enough
   module _ (room : length (cardReply hash rec div) ≤ length work) where

@@ -1,4 +1,4 @@
--- The session promise of demand 2, from a loaded card to the record that Accept returns. Assumes nothing.
+-- The session promise of demand 2 on a card that a load stocked, whatever session it has: from List to the record that Accept returns. Assumes nothing.
 use mathlib.Core.Path.{_≡_, refl, sym, ap, ap₂, _∙_, subst}
 use mathlib.Core.Bool.{Bool, true, false, cond, _||_, true≢false}
 use mathlib.Core.List.{List, map}
@@ -7,7 +7,7 @@ use native.Mathlib.Omega.{arith}
 use lib.Dec.{eqb, ltb}
 use lib.ListN.{length, getD, length-map, List·getD-map}
 use lib.Seq.{getD-take, length-take-le}
-use borrow.Author.Tests.{eqb-true, ltb-false, eq-eqb, ne-eqb, le-ltb}
+use borrow.Author.Tests.{eqb-true, ltb-true, ltb-false, eq-eqb, ne-eqb, le-ltb}
 use Rattle.octets.specs.Lists.{part, length-part}
 use Rattle.octets.specs.Bytes.{Bytes, Block}
 use Rattle.octets.specs.ByteLists.{part-bytes}
@@ -21,7 +21,7 @@ use Rattle.plaid_types.specs.declared.KeySetSlot.{KeySetSlot}
 use Rattle.plaid_types.specs.declared.Session.{Session}
 use Rattle.plaid_types.specs.declared.Card.{Card}
 use Rattle.load.specs.Load.{some, repeated}
-use Rattle.load.specs.Laws.{GoodRecord, Stocked, IsLoaded, stocked-session}
+use Rattle.load.specs.Laws.{GoodRecord, Stocked, stocked-session}
 use Rattle.initial.specs.Initial.{slotOf, str1, blockOf, initialReply}
 use Rattle.final_command.specs.Final.{faKeyOf, keyOf, firstMode, finalReply}
 use Rattle.card.specs.Command.{replyTo, outcome, answerBytes, verdictOn}
@@ -33,7 +33,8 @@ use Rattle.reader_open.specs.declared.Opened.{Opened}
 use Rattle.reader_seal.specs.Seal.{keysHashOf, sealCommand}
 use Rattle.reader_seal.specs.RoundTrip.{keysHash-bytes}
 use Rattle.reader_accept.specs.Accept.{acceptedOf, workAfter, recordPart}
-use Rattle.reader_accept.specs.RoundTrip.{cardReply, reply-accepted, reply-record}
+use Rattle.reader_accept.specs.declared.Accepted.{Accepted}
+use Rattle.reader_accept.specs.RoundTrip.{cardReply, reply-accepted, reply-record, reply-short}
 use Rattle.session_initial.specs.Held.{held, firstHeld, first-held}
 use Rattle.session_initial.specs.Answered.{Answers, list-answered, list-slot}
 use Rattle.session_final.specs.SealFrame.{seal-status, seal-ins}
@@ -75,6 +76,18 @@ opened-at ids n blocks j a b e w h =
     let v : eqb (winner ids n blocks) n ≡ false = ne-eqb (winner ids n blocks) n (λ q. omega arith) in
     simp (x, y, z, v) (ap (λ (i : ℕ). openedAt (getD ids i noId) blocks i) w)
 
+-- where the count is right and 14 is not given, there are as many blocks as entries
+counted-blocks : (ids : List KeySetId) (n : ℕ) (blocks : List ℕ) → 1 ≤ n → n ≤ 16 → (opened ids n blocks .number ≡ 14 → ⊥) → length blocks ≡ 256 * n
+unfolding opened openNumber
+counted-blocks ids n blocks a b f = by (eqb (length blocks) (256 * n)) refl
+  where
+    by : (t : Bool) → eqb (length blocks) (256 * n) ≡ t → length blocks ≡ 256 * n
+    by true e = eqb-true (length blocks) (256 * n) e
+    by false e =
+        let x : eqb n 0 ≡ false = ne-eqb n 0 (λ z. omega arith) in
+        let y : ltb 16 n ≡ false = le-ltb 16 n b in
+        absurd (f (simp (x, y, e)))
+
 -- a session between a card c and a reader
 module _ (c : Card) (ids : List KeySetId) (n : ℕ) (fresh₁ : List ℕ) (room₁ : ℕ) (blocks fa r2 payload : List ℕ) (mode : ℕ) (fresh₂ : List ℕ) (room₂ : ℕ) (work : List ℕ) where
   -- the KeySetIDs listed, List's command, and the card's answer to it
@@ -110,14 +123,14 @@ module _ (c : Card) (ids : List KeySetId) (n : ℕ) (fresh₁ : List ℕ) (room�
 
   -- the conditions of the promise
   pub record Conditions : Type 0 where
-    pub loaded : IsLoaded c
+    pub stocked : Stocked c
     -- "none of 8 to 14, 16, 17 and 19 arises" (16 and 17 make no difference to the command)
     pub list-room : ℕ
     pub list-made : listNumber ids n list-room ≡ 0
     pub first-call : outcome c (listCommand listed) fresh₁ room₁ .answer .number ≡ 0
-    pub total : length blocks ≡ 256 * n
+    pub not-14 : open₁ .number ≡ 14 → ⊥
     pub second-call : outcome card₁ command₂ fresh₂ room₂ .answer .number ≡ 0
-    pub work-room : length answer₂ ≤ length work
+    pub not-19 : acceptedOf hash (open₁ .«div_data») answer₂ (length work) .number ≡ 19 → ⊥
     -- "the first listed set that the card holds has equal FAKey at both ends"
     pub some-held : some (held c) listed ≡ true
     pub same-key : slot .«fa_key» ≡ fa
@@ -139,7 +152,7 @@ module _ (c : Card) (ids : List KeySetId) (n : ℕ) (fresh₁ : List ℕ) (room�
 
   module _ (k : Conditions) where
     g : Stocked c
-    g = k .loaded .stocked
+    g = k .stocked
 
     range : (1 ≤ n) × (n ≤ 16)
     range = listing ids n (k .list-room) (k .list-made)
@@ -196,7 +209,7 @@ module _ (c : Card) (ids : List KeySetId) (n : ℕ) (fresh₁ : List ℕ) (room�
 
     -- Open hands back the first listed set that the card holds
     open-is : open₁ ≡ openedAt (getD ids place noId) blocks place
-    open-is = opened-at ids n blocks place (range .0) (range .1) (k .total) wins (omega (arith, first-held c listed (k .some-held) .within, listed-long))
+    open-is = opened-at ids n blocks place (range .0) (range .1) (counted-blocks ids n blocks (range .0) (range .1) (k .not-14)) wins (omega (arith, first-held c listed (k .some-held) .within, listed-long))
 
     lr : length (part fresh₁ 0 16) ≡ 16
     lr = length-part fresh₁ 0 16 (omega (arith, past .fresh-long))
@@ -285,22 +298,44 @@ module _ (c : Card) (ids : List KeySetId) (n : ℕ) (fresh₁ : List ℕ) (room�
     h₁ : List ℕ
     h₁ = keysHashOf (part fresh₁ 0 16) r2
 
-    room-is : length (cardReply h₁ rec (c .«div_data»)) ≤ length work
-    unfolding h₁
-    room-is = subst (λ (a : List ℕ). length a ≤ length work) answer-is (k .work-room)
-
     hash-is : hash ≡ h₁
     unfolding h₁
     hash-is = ap (λ (r : List ℕ). keysHashOf r r2) open-rnd1
+
+    -- what Accept gets is the card's reply
+    accepts-reply : acceptedOf hash (open₁ .«div_data») answer₂ (length work) ≡ acceptedOf h₁ (c .«div_data») (cardReply h₁ rec (c .«div_data»)) (length work)
+    unfolding h₁
+    accepts-reply =
+        ap₂ (λ (a b : List ℕ). acceptedOf a b answer₂ (length work)) hash-is open-div
+        ∙ ap (λ (a : List ℕ). acceptedOf h₁ (c .«div_data») a (length work)) answer-is
+
+    div-block : Block (c .«div_data»)
+    div-block = record { long = g .div-long; byte = k .div-bytes }
+
+    some-bytes : 1 ≤ length rec
+    some-bytes = omega (arith, rec-long, good .some-bytes)
+
+    most-bytes : length rec ≤ 64
+    most-bytes = omega (arith, rec-long, good .most-bytes)
+
+    room-by : (t : Bool) → ltb (length work) (length (cardReply h₁ rec (c .«div_data»))) ≡ t → length (cardReply h₁ rec (c .«div_data»)) ≤ length work
+    unfolding h₁
+    room-by true e =
+        absurd
+        (k .not-19
+        (ap (λ (a : Accepted). a .number) accepts-reply
+        ∙ reply-short h₁ rec (c .«div_data») work (keysHash-bytes (part fresh₁ 0 16) r2) rec-bytes div-block some-bytes most-bytes (ltb-true _ _ e)))
+    room-by false e = ltb-false (length work) (length (cardReply h₁ rec (c .«div_data»))) e
+
+    room-is : length (cardReply h₁ rec (c .«div_data»)) ≤ length work
+    room-is = room-by (ltb (length work) (length (cardReply h₁ rec (c .«div_data»)))) refl
 
     -- THE SESSION PROMISE: Accept gives no number, and returns the record of that mode
     pub session-number : acceptedOf hash (open₁ .«div_data») answer₂ (length work) ≡ record { number = 0; length = sealedSlot c mode .len }
     unfolding h₁ s₁ rec
     session-number =
-        ap₂ (λ (a b : List ℕ). acceptedOf a b answer₂ (length work)) hash-is open-div
-        ∙ ap (λ (a : List ℕ). acceptedOf h₁ (c .«div_data») a (length work)) answer-is
-        ∙ reply-accepted h₁ rec (c .«div_data») work (keysHash-bytes (part fresh₁ 0 16) r2) rec-bytes (record { long = g .div-long; byte = k .div-bytes })
-        (omega (arith, rec-long, good .some-bytes)) (omega (arith, rec-long, good .most-bytes)) room-is
+        accepts-reply
+        ∙ reply-accepted h₁ rec (c .«div_data») work (keysHash-bytes (part fresh₁ 0 16) r2) rec-bytes div-block some-bytes most-bytes room-is
         ∙ ap (λ (m : ℕ). record { number = 0; length = m }) rec-long
 
     pub session-record : recordPart (workAfter hash (open₁ .«div_data») answer₂ work) (acceptedOf hash (open₁ .«div_data») answer₂ (length work)) ≡ sealedRecord c mode
@@ -308,5 +343,4 @@ module _ (c : Card) (ids : List KeySetId) (n : ℕ) (fresh₁ : List ℕ) (room�
     session-record =
         ap₂ (λ (a b : List ℕ). recordPart (workAfter a b answer₂ work) (acceptedOf a b answer₂ (length work))) hash-is open-div
         ∙ ap (λ (a : List ℕ). recordPart (workAfter h₁ (c .«div_data») a work) (acceptedOf h₁ (c .«div_data») a (length work))) answer-is
-        ∙ reply-record h₁ rec (c .«div_data») work (keysHash-bytes (part fresh₁ 0 16) r2) rec-bytes (record { long = g .div-long; byte = k .div-bytes })
-        (omega (arith, rec-long, good .some-bytes)) (omega (arith, rec-long, good .most-bytes)) room-is
+        ∙ reply-record h₁ rec (c .«div_data») work (keysHash-bytes (part fresh₁ 0 16) r2) rec-bytes div-block some-bytes most-bytes room-is
