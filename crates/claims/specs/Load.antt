@@ -1,0 +1,33 @@
+-- Document 01, "The card": a load as the personaliser makes it, through the exported `plaid_load`.
+use mathlib.Core.Path.{_≡_}
+use mathlib.Core.List.{List}
+use Prim.Native.Nat.{ℕ, _<_}
+use lib.ListN.{length, getD}
+use Rattle.octets.specs.Bytes.{Bytes, Block}
+use Rattle.plaid_types.specs.declared.KeySet.{KeySet}
+use Rattle.plaid_types.specs.declared.Card.{Card}
+use Rattle.load.specs.Laws.{pastSet}
+use Rattle.plaid.specs.Interface.{loadOf}
+use Rattle.plaid.specs.declared.Given.{Given}
+
+-- "A load gives 1 to 8 key sets .., 1 to 16 modes .., DivData .., a shill AES key and a shill RSA handle", and a record area
+pub record Load : Type 0 where
+  pub sets : List KeySet
+  pub given : Given
+  pub area : List ℕ
+
+-- the card that it returned
+abbrev pub cardOf : Load → Card
+cardOf l = loadOf (l .sets) (l .given) (l .area) .card
+
+-- "a successful load": number 0
+abbrev pub Succeeds : Load → Type 0
+Succeeds l = loadOf (l .sets) (l .given) (l .area) .number ≡ 0
+
+-- what the types of its arguments say: an array of sixteen modes, keys and DivData of sixteen bytes, and an area of bytes
+pub record Typed (l : Load) : Type 0 where
+  pub modes : length (l .given .modes) ≡ 16
+  pub div : Block (l .given .«div_data»)
+  pub key : Block (l .given .«shill_key»)
+  pub keys : (i : ℕ) → i < length (l .sets) → Block (getD (l .sets) i pastSet .«fa_key»)
+  pub area-bytes : Bytes (l .area)

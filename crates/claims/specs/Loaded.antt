@@ -1,0 +1,144 @@
+-- What a successful load made: its card in terms of what was given, and what every list of calls keeps true of it. Assumes nothing.
+use mathlib.Core.Path.{_≡_, refl, sym, ap, _∙_}
+use mathlib.Core.Bool.{Bool, true, false, cond, _||_}
+use mathlib.Core.List.{List, map, _++_}
+use Prim.Native.Nat.{ℕ, _+_, _-_, _<_, _≤_}
+use native.Mathlib.Nat.{le-refl}
+use native.Mathlib.Omega.{arith}
+use lib.Dec.{eqb, ltb}
+use lib.ListN.{length, getD, take, drop, replicate, length-append, length-drop}
+use lib.Seq.{take-length, take-append-le, drop-append-le, getD-take, length-take-le}
+use borrow.Author.Tests.{eqb-true, ltb-false}
+use Rattle.octets.specs.Bytes.{Bytes}
+use Rattle.octets.specs.ByteLists.{append-bytes, zeros-bytes}
+use Rattle.octets.specs.Lists.{part}
+use Rattle.plaid_types.specs.Cards.{noSession, withSession}
+use Rattle.plaid_types.specs.declared.KeySet.{KeySet}
+use Rattle.plaid_types.specs.declared.KeySetSlot.{KeySetSlot}
+use Rattle.plaid_types.specs.declared.Mode.{Mode}
+use Rattle.plaid_types.specs.declared.ModeSlot.{ModeSlot}
+use Rattle.plaid_types.specs.declared.Session.{Session}
+use Rattle.plaid_types.specs.declared.Card.{Card}
+use Rattle.load.specs.Load.{refusal, badRecord, filled, setSlot, modeSlot, loadedCard, blankCard, loaded}
+use Rattle.load.specs.Laws.{pastSet, pastMode, neither, some-none, Accepted, accepted, setAt, modeAt, set-held, mode-held, set-given, Stocked, IsLoaded, is-loaded, load-made}
+use Rattle.load.specs.declared.Loaded.{Loaded}
+use Rattle.card.specs.Demand3.{Sound}
+use Rattle.plaid.specs.Interface.{loadOf}
+use Rattle.claims.specs.Load.{Load, cardOf, Succeeds, Typed}
+
+refusal-zero : (r : ℕ) (c : Card) (t : Bool) → eqb r 0 ≡ t → cond {A = Loaded} t (record { number = 0; card = c }) (record { number = r; card = blankCard }) .number ≡ 0 → r ≡ 0
+refusal-zero r c true e z = eqb-true r 0 e
+refusal-zero r c false e z = z
+
+-- a part of the area that lies in what was given
+part-filled : (n : ℕ) (area : List ℕ) (s k : ℕ) → s + k ≤ length area → part (filled n 0 area) s k ≡ part area s k
+unfolding part filled
+part-filled n area s k h =
+    let z : List ℕ = replicate (n - length area) 0 in
+    ap (take k) (drop-append-le s area z (omega arith)) ∙ take-append-le k (drop s area) z (omega (arith, length-drop s area))
+
+filled-bytes : (n : ℕ) (area : List ℕ) → Bytes area → Bytes (filled n 0 area)
+unfolding filled
+filled-bytes n area b = append-bytes area (replicate (n - length area) 0) b (zeros-bytes (n - length area))
+
+module _ (l : Load) (ok : Succeeds l) where
+  -- the modes that are counted
+  abbrev modes : List Mode
+  modes = take (l .given .«mode_count») (l .given .modes)
+
+  abbrev made : Card
+  made = loadedCard (l .sets) modes (l .area) (l .given .«div_data») (l .given .«shill_key») (l .given .«shill_handle»)
+
+  zero-refusal : refusal (l .sets) (length (l .sets)) (l .given .modes) (l .given .«mode_count») (length (l .area)) (l .given .«shill_handle») ≡ 0
+  unfolding loadOf loaded
+  zero-refusal =
+      refusal-zero (refusal (l .sets) (length (l .sets)) (l .given .modes) (l .given .«mode_count») (length (l .area)) (l .given .«shill_handle»))
+      (loadedCard (take (length (l .sets)) (l .sets)) modes (l .area) (l .given .«div_data») (l .given .«shill_key») (l .given .«shill_handle»))
+      (eqb (refusal (l .sets) (length (l .sets)) (l .given .modes) (l .given .«mode_count») (length (l .area)) (l .given .«shill_handle»)) 0) refl ok
+
+  shown : Accepted (l .sets) (length (l .sets)) (l .given .modes) (l .given .«mode_count») (length (l .area)) (l .given .«shill_handle»)
+  shown = accepted (l .sets) (length (l .sets)) (l .given .modes) (l .given .«mode_count») (length (l .area)) (l .given .«shill_handle») zero-refusal
+
+  card-is : cardOf l ≡ made
+  unfolding loadOf
+  card-is =
+      ap (λ (r : Loaded). r .card)
+      (load-made (l .sets) (length (l .sets)) (l .given .modes) (l .given .«mode_count») (l .area) (l .given .«div_data») (l .given .«shill_key») (l .given .«shill_handle») zero-refusal)
+      ∙ ap (λ (s : List KeySet). loadedCard s modes (l .area) (l .given .«div_data») (l .given .«shill_key») (l .given .«shill_handle»)) (take-length (l .sets))
+
+  -- the slot of a set that was given, and that there is no other
+  pub set-slot : (i : ℕ) → i < length (l .sets) → setAt (cardOf l) i ≡ setSlot (getD (l .sets) i pastSet)
+  set-slot i h = ap (λ (c : Card). setAt c i) card-is ∙ set-held (l .sets) modes (l .area) (l .given .«div_data») (l .given .«shill_key») (l .given .«shill_handle») i h
+
+  pub slot-given : (i : ℕ) → setAt (cardOf l) i .held ≡ true → i < length (l .sets)
+  slot-given i e =
+      set-given (l .sets) modes (l .area) (l .given .«div_data») (l .given .«shill_key») (l .given .«shill_handle») i
+      (sym (ap (λ (c : Card). setAt c i .held) card-is) ∙ e)
+
+  pub sets-most : length (l .sets) ≤ 8
+  sets-most = shown .sets-most
+
+  -- the mode of a place below the count, and its record
+  module _ (t : length (l .given .modes) ≡ 16) (i : ℕ) (h : i < l .given .«mode_count») where
+    modes-long : length modes ≡ l .given .«mode_count»
+    modes-long = length-take-le (l .given .«mode_count») (l .given .modes) (omega (arith, shown .modes-most))
+
+    mode-at : getD modes i pastMode ≡ getD (l .given .modes) i pastMode
+    mode-at = getD-take (l .given .«mode_count») (l .given .modes) i pastMode h
+
+    pub mode-slot : modeAt (cardOf l) i ≡ modeSlot (getD (l .given .modes) i pastMode)
+    mode-slot =
+        ap (λ (c : Card). modeAt c i) card-is
+        ∙ mode-held (l .sets) modes (l .area) (l .given .«div_data») (l .given .«shill_key») (l .given .«shill_handle») i (omega (arith, modes-long))
+        ∙ ap modeSlot mode-at
+
+    pub mode-below : i < 16
+    mode-below = omega (arith, shown .modes-most)
+
+    record-good : badRecord (length (l .area)) (getD (l .given .modes) i pastMode) ≡ false
+    record-good =
+        ap (badRecord (length (l .area))) (sym mode-at)
+        ∙ some-none (badRecord (length (l .area))) modes pastMode i (shown .records-good) (omega (arith, modes-long))
+
+    inside : getD (l .given .modes) i pastMode .start + getD (l .given .modes) i pastMode .len ≤ length (l .area)
+    inside =
+        let m : Mode = getD (l .given .modes) i pastMode in
+        let x = neither (eqb (m .len) 0) (ltb 64 (m .len) || ltb (length (l .area)) (m .start + m .len)) record-good in
+        let y = neither (ltb 64 (m .len)) (ltb (length (l .area)) (m .start + m .len)) (x .1) in
+        ltb-false (length (l .area)) (m .start + m .len) (y .1)
+
+    -- it is a part of the area that was given
+    pub record-given :
+        part (cardOf l .area) (getD (l .given .modes) i pastMode .start) (getD (l .given .modes) i pastMode .len)
+        ≡ part (l .area) (getD (l .given .modes) i pastMode .start) (getD (l .given .modes) i pastMode .len)
+    unfolding loadedCard
+    record-given =
+        let m : Mode = getD (l .given .modes) i pastMode in
+        ap (λ (c : Card). part (c .area) (m .start) (m .len)) card-is ∙ part-filled 1024 (l .area) (m .start) (m .len) inside
+
+  module _ (t : Typed l) where
+    pub is-a-load : IsLoaded (cardOf l)
+    is-a-load =
+        rw card-is
+        (rw (take-length (l .sets)) at
+        (is-loaded (l .sets) (length (l .sets)) (l .given .modes) (l .given .«mode_count») (l .area) (l .given .«div_data») (l .given .«shill_key») (l .given .«shill_handle») zero-refusal
+        (le-refl (length (l .sets))) (t .modes) (t .div .long) (t .key .long) (λ i h. t .keys i h .long)))
+
+    pub sound : Sound (cardOf l)
+    sound =
+        let k = is-a-load in
+        record {
+          sets = k .stocked .sets-long;
+          modes = k .stocked .modes-long;
+          div = k .stocked .div-long;
+          rnd1 = ap (λ (s : Session). length (s .rnd1)) (k .no-session);
+          size = k .stocked .size-most;
+        }
+
+    pub div-given : cardOf l .«div_data» ≡ l .given .«div_data»
+    unfolding loadedCard
+    div-given = ap (λ (c : Card). c .«div_data») card-is
+
+    pub area-bytes : Bytes (cardOf l .area)
+    unfolding loadedCard
+    area-bytes i = rw card-is (filled-bytes 1024 (l .area) (t .area-bytes) i)
