@@ -1,2 +1,4 @@
 pub mod Load
 pub mod Loaded
+pub mod Demand3
+pub mod Kept

@@ -33,7 +33,7 @@ pub record Lawful (c : Card) (s : Session) : Type 0 where
   pub rnd1 : length (s .rnd1) ≡ 16
   pub held : s .opened ≡ true → HeldIn c s
 
-none-lawful : (c : Card) → Lawful c noSession
+pub none-lawful : (c : Card) → Lawful c noSession
 none-lawful c = record { rnd1 = refl; held = λ e. absurd (true≢false (sym e)) }
 
 -- the session of an accepted initial command

@@ -1,0 +1,44 @@
+-- DEMAND 3, one claim: "For every list of commands from a newly loaded card, at every place: length, status and the five counts equal document 01's
+-- formulas of frame, length and reply size; the work sum is the one document 01 defines; and two such lists on two such cards that agree where 01
+-- says are alike in all that it says." Assumes nothing.
+use mathlib.Core.Path.{_≡_, ap, _∙_}
+use mathlib.Core.List.{List, _∷_, _++_, map}
+use Prim.Native.Nat.{ℕ}
+use lib.ListN.{length, getD}
+use Rattle.work.specs.Steps.{workSum}
+use Rattle.plaid_types.specs.Cards.{noSession}
+use Rattle.plaid_types.specs.declared.Outcome.{Outcome}
+use Rattle.card.specs.Lists.{Call, Shape, run, sessionAfter, stepsOf, shapeOf, formulasOf, Agree, AllAlike, Indistinct}
+use Rattle.card.specs.Demand3.{list-formulas, place, call-sum, lists-alike, lists-indistinct}
+use Rattle.claims.specs.Load.{Load, cardOf, Succeeds, Typed}
+use Rattle.claims.specs.Loaded.{is-a-load, sound}
+
+-- number, status, counts and answer length at each place of a list of commands on the card that a load returned
+abbrev pub shapes : Load → List Call → List Shape
+shapes l xs = map (λ o. shapeOf (o .answer)) (run (cardOf l) xs)
+
+pub record Demand3 (l : Load) : Type 0 where
+  -- "length, status and the five counts equal document 01's formulas of frame, length and reply size"
+  pub formulas : (xs : List Call) → shapes l xs ≡ map (formulasOf (cardOf l .«reply_size»)) xs
+  -- "the work sum is the one document 01 defines": at the place of x, behind the calls xs, it is that of the steps which the load, the session there
+  -- and the call give (o stands for what a list of outcomes has past its end)
+  pub sums :
+      (xs ys : List Call) (x : Call) (o : Outcome)
+      → getD (run (cardOf l) (xs ++ (x ∷ ys))) (length xs) o .answer .sum ≡ workSum (stepsOf (cardOf l) (sessionAfter (cardOf l) noSession xs) x)
+  -- "two such lists on two such cards": of another load m, where the cards agree in shill keys and reply size and the lists, place by place, in frame,
+  -- length, fresh bytes and output size. Number, status, counts and length are alike at every place
+  pub alike : (m : Load) → Typed m → Succeeds m → Agree (cardOf l) (cardOf m) → {xs ys : List Call} → AllAlike xs ys → shapes l xs ≡ shapes m ys
+  -- and where neither card accepts, the answer bytes and the key handle are too
+  pub indistinct :
+      (m : Load) → Typed m → Succeeds m → Agree (cardOf l) (cardOf m) → {xs ys : List Call} → AllAlike xs ys → Indistinct (cardOf l) (cardOf m) xs ys
+
+pub demand-3 : (l : Load) → Typed l → Succeeds l → Demand3 l
+demand-3 l t ok =
+    record {
+      formulas = λ xs. list-formulas xs (cardOf l) (sound l ok t);
+      sums =
+          λ xs ys x o. ap (λ (r : Outcome). r .answer .sum) (place (cardOf l) xs ys x o (is-a-load l ok t .no-session))
+          ∙ call-sum (cardOf l) (sessionAfter (cardOf l) noSession xs) x;
+      alike = λ m u k g a. lists-alike (cardOf l) (cardOf m) (sound l ok t) (sound m k u) g a;
+      indistinct = λ m u k g a. lists-indistinct (cardOf l) (cardOf m) g a;
+    }

@@ -1,0 +1,49 @@
+-- What every list of calls keeps true of the card that a successful load returned: declined, refused, accepted and broken off alike. Assumes nothing.
+use mathlib.Core.Path.{_≡_, refl, sym, ap, _∙_, subst}
+use mathlib.Core.Bool.{true}
+use mathlib.Core.List.{List}
+use Prim.Native.Nat.{ℕ}
+use lib.ListN.{length}
+use Rattle.plaid_types.specs.Cards.{noSession, withSession}
+use Rattle.plaid_types.specs.declared.Session.{Session}
+use Rattle.plaid_types.specs.declared.Card.{Card}
+use Rattle.load.specs.Laws.{Stocked, setAt, stocked-session}
+use Rattle.final_command.specs.Final.{faKeyOf}
+use Rattle.card.specs.Lists.{Call, cardAfter, sessionAfter}
+use Rattle.card.specs.Demand3.{card-after}
+use Rattle.session.specs.Kept.{HeldIn, Lawful, none-lawful, after-lawful, key-of-session}
+use Rattle.claims.specs.Load.{Load, cardOf, Succeeds, Typed}
+use Rattle.claims.specs.Loaded.{is-a-load}
+
+pub record Kept (l : Load) (c : Card) : Type 0 where
+  -- all that the load made: "a card keeps only this state", the session, beside it
+  pub same : c ≡ withSession (cardOf l) (c .session)
+  pub stocked : Stocked c
+  -- RND1 has its sixteen bytes
+  pub rnd1 : length (c .session .rnd1) ≡ 16
+  -- an open session's KeySetID is held
+  pub held : c .session .opened ≡ true → HeldIn c (c .session)
+  -- so its FAKey is that of the slot that holds it, and what stands in for a set that is not held is never used
+  pub key : (o : c .session .opened ≡ true) → faKeyOf c ≡ setAt c (held o .slot) .«fa_key»
+
+module _ (l : Load) (t : Typed l) (ok : Succeeds l) (xs : List Call) where
+  s : Session
+  s = sessionAfter (cardOf l) noSession xs
+
+  after-is : cardAfter (cardOf l) xs ≡ withSession (cardOf l) s
+  unfolding s
+  after-is =
+      ap (λ (z : Session). cardAfter (withSession (cardOf l) z) xs) (is-a-load l ok t .no-session) ∙ card-after (cardOf l) noSession xs
+
+  lawful : Lawful (cardOf l) s
+  unfolding s
+  lawful = after-lawful (cardOf l) (is-a-load l ok t .stocked) noSession (none-lawful (cardOf l)) xs
+
+  kept-by : Kept l (withSession (cardOf l) s)
+  kept-by =
+      let g = stocked-session (cardOf l) s (is-a-load l ok t .stocked) in
+      let h : s .opened ≡ true → HeldIn (withSession (cardOf l) s) s = λ o. let a = lawful .held o in record { slot = a .slot; holds = a .holds } in
+      record { same = refl; stocked = g; rnd1 = lawful .rnd1; held = h; key = λ o. key-of-session (withSession (cardOf l) s) g o (h o) }
+
+  pub kept : Kept l (cardAfter (cardOf l) xs)
+  kept = subst (λ (c : Card). Kept l c) (sym after-is) kept-by
