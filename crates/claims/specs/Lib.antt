@@ -2,3 +2,5 @@ pub mod Load
 pub mod Loaded
 pub mod Demand3
 pub mod Kept
+pub mod Found
+pub mod Session

@@ -52,7 +52,7 @@ unfolding replyTo
 reply-final c cmd fresh i = rw i
 
 -- what List has shown that is not declined
-listing : (ids : List KeySetId) (n room : ℕ) → listNumber ids n room ≡ 0 → (1 ≤ n) × (n ≤ 16)
+pub listing : (ids : List KeySetId) (n room : ℕ) → listNumber ids n room ≡ 0 → (1 ≤ n) × (n ≤ 16)
 unfolding listNumber
 listing ids n room z = by (eqb n 0) (ltb 16 n) refl refl z
   where
