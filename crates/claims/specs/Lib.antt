@@ -4,3 +4,4 @@ pub mod Demand3
 pub mod Kept
 pub mod Found
 pub mod Session
+pub mod Witness

@@ -1,0 +1,264 @@
+-- A whole session, closed: every hypothesis of the two claims is met. The card's first session is broken off behind its initial command; the reader
+-- then lists a set that the card does not hold and one that it does. Assumes nothing.
+use mathlib.Core.Path.{_≡_, refl, sym, ap, _∙_}
+use mathlib.Core.Bool.{Bool, true, false, cond}
+use mathlib.Core.List.{List, [], _∷_, _++_}
+use Prim.Native.Nat.{ℕ, zero, suc, _*_, _<_, _≤_}
+use native.Mathlib.Nat.{not-suc-le-zero}
+use native.Mathlib.Omega.{arith}
+use lib.Dec.{eqb, ltb}
+use lib.ListN.{length, getD, take, drop, replicate, length-append}
+use lib.Seq.{drop-at, take-all}
+use borrow.Author.Tests.{le-ltb, eq-eqb, ne-eqb}
+use Rattle.octets.specs.Bytes.{Bytes, Block}
+use Rattle.octets.specs.Lists.{part, over}
+use Rattle.plaid_types.specs.Cards.{withSession}
+use Rattle.plaid_types.specs.declared.KeySet.{KeySet}
+use Rattle.plaid_types.specs.declared.KeySetId.{KeySetId}
+use Rattle.plaid_types.specs.declared.Mode.{Mode}
+use Rattle.plaid_types.specs.declared.Card.{Card}
+use Rattle.plaid_types.specs.declared.Outcome.{Outcome}
+use Rattle.frame.specs.Frame.{frameOf, whole, statusOf, dataOf}
+use Rattle.frame.specs.Declines.{padBytes, noZero, verdict}
+use Rattle.load.specs.Load.{refusal, modesRefusal, loadedCard, loaded, filled}
+use Rattle.load.specs.Laws.{pastSet, pastMode}
+use Rattle.card.specs.Command.{replyTo, told, declined, verdictOn, outcome, answerBytes}
+use Rattle.card.specs.Lists.{Call, cardAfter, Agree, AllAlike, none, more}
+use Rattle.reader_list.specs.List.{listNumber, listed, listOutput, listCommand}
+use Rattle.list.specs.Ber.{lengthAt, entryAt, head, walked}
+use Rattle.list.specs.Ber as ber
+use Rattle.list.specs.Encoding.{encoded, shortEntries}
+use Rattle.initial.specs.Initial.{firstPlace, slotOf, str1, blockOf, initialReply}
+use Rattle.reader_open.specs.Open.{noId, formed, agrees, opensAs, blockAt, winner, opened, openNumber}
+use Rattle.reader_seal.specs.Seal.{sealNumber, sealedOf}
+use Rattle.reader_accept.specs.Accept.{knownLength, decipheredText, authenticated, acceptNumber, acceptedOf}
+use Rattle.reader_accept.specs.Laws.{known}
+use Rattle.plaid.specs.Interface.{loadOf}
+use Rattle.plaid.specs.declared.Given.{Given}
+use Rattle.claims.specs.Load.{Load, cardOf, Succeeds, Typed}
+use Rattle.claims.specs.Demand3.{Demand3, demand-3, shapes}
+use Rattle.claims.specs.Session.{Exchange, Conditions, Promised, answer₁, returned, session-promise}
+
+-- a call whose platform lends what it should gets no number, whatever the command
+module _ (c : Card) (cmd fresh : List ℕ) (room : ℕ) (lf : length fresh ≡ 253) (nz : noZero (padBytes fresh) ≡ true) (h : 256 ≤ room) where
+  verdict-is : verdictOn cmd fresh room ≡ record { number = 0; status = statusOf (length cmd) (frameOf cmd) }
+  unfolding verdict
+  verdict-is = rw (eq-eqb (length fresh) 253 lf, nz, le-ltb room 256 h)
+
+  by : (t : Bool) → cond {A = Outcome} t (record { answer = told (replyTo c cmd fresh); card = withSession c (replyTo c cmd fresh .session) }) (record { answer = declined (verdictOn cmd fresh room); card = c }) .answer .number ≡ 0
+  by true = refl
+  by false = rw verdict-is
+
+  pub no-number : outcome c cmd fresh room .answer .number ≡ 0
+  unfolding outcome
+  no-number = by (eqb (verdictOn cmd fresh room .status) 0x9000)
+
+-- and 96 bytes of work buffer are enough for every response
+pub work-enough : (hash div response : List ℕ) (room : ℕ) → 96 ≤ room → acceptedOf hash div response room .number ≡ 19 → ⊥
+unfolding acceptedOf acceptNumber
+work-enough hash div response room h q = by (knownLength (length response)) (authenticated (decipheredText hash response) div) refl q
+  where
+    by : (s t : Bool) → knownLength (length response) ≡ s → _≡_ {A = ℕ} (cond s (cond (ltb room (length response)) 19 (cond t 0 20)) 18) 19 → ⊥
+    by true true e z = let m = known (length response) e .most in omega (arith, rw (le-ltb room (length response) (omega arith)) at z)
+    by true false e z = let m = known (length response) e .most in omega (arith, rw (le-ltb room (length response) (omega arith)) at z)
+    by false t e z = omega arith
+
+-- as many blocks as entries, and 14 is not given
+pub open-counted : (ids : List KeySetId) (n : ℕ) (blocks : List ℕ) → 1 ≤ n → n ≤ 16 → length blocks ≡ 256 * n → opened ids n blocks .number ≡ 14 → ⊥
+unfolding opened openNumber
+open-counted ids n blocks a b l q = by (eqb (winner ids n blocks) n) refl q
+  where
+    by : (t : Bool) → eqb (winner ids n blocks) n ≡ t → opened ids n blocks .number ≡ 14 → ⊥
+    by true e z = let y : _≡_ {A = ℕ} 15 14 = simp (ne-eqb n 0 (λ m. omega arith), le-ltb 16 n b, eq-eqb (length blocks) (256 * n) l, e) at z in omega arith
+    by false e z = let y : _≡_ {A = ℕ} 0 14 = simp (ne-eqb n 0 (λ m. omega arith), le-ltb 16 n b, eq-eqb (length blocks) (256 * n) l, e) at z in omega arith
+
+same-bytes : (n x : ℕ) → x < 256 → Bytes (replicate n x)
+same-bytes zero x h i = omega arith
+same-bytes (suc n) x h zero = h
+same-bytes (suc n) x h (suc i) = same-bytes n x h i
+
+block-of : (x : ℕ) → x < 256 → Block (replicate 16 x)
+block-of x h = record { long = refl; byte = same-bytes 16 x h }
+
+-- the load: sets 1 and 2, mode 7 with a record of 16 bytes behind 4 others
+unfoldable pub set : ℕ → KeySet
+set n = record { id = record { 0 = n }; handle = n; «fa_key» = replicate 16 n }
+
+unfoldable pub loads : ℕ → ℕ → Load
+loads a b =
+    record {
+      sets = set a ∷ set b ∷ [];
+      given =
+          record {
+            modes = record { id = record { 0 = 7 }; start = 4; len = 16 } ∷ replicate 15 pastMode;
+            «mode_count» = 1;
+            «div_data» = replicate 16 0xD1;
+            «shill_key» = replicate 16 0x55;
+            «shill_handle» = 9;
+          };
+      area = replicate 4 0xAA ++ replicate 16 0xBB;
+    }
+
+keys-blocks : (a b : ℕ) → a < 256 → b < 256 → (i : ℕ) → i < 2 → Block (getD (set a ∷ set b ∷ []) i pastSet .«fa_key»)
+unfolding set
+keys-blocks a b ha hb zero h = block-of a ha
+keys-blocks a b ha hb (suc zero) h = block-of b hb
+keys-blocks a b ha hb (suc (suc i)) h = absurd (omega arith)
+
+area-bytes : Bytes (replicate 4 0xAA ++ replicate 16 0xBB)
+area-bytes i = by i
+  where
+    by : (i : ℕ) → getD (replicate 4 0xAA ++ replicate 16 0xBB) i 0 < 256
+    by zero = omega arith
+    by (suc zero) = omega arith
+    by (suc (suc zero)) = omega arith
+    by (suc (suc (suc zero))) = omega arith
+    by (suc (suc (suc (suc i)))) = same-bytes 16 0xBB (omega arith) i
+
+load-typed : (a b : ℕ) → a < 256 → b < 256 → Typed (loads a b)
+unfolding loads
+load-typed a b ha hb =
+    record { modes = refl; div = block-of 0xD1 (omega arith); key = block-of 0x55 (omega arith); keys = keys-blocks a b ha hb; area-bytes = area-bytes }
+
+load-done : Succeeds (loads 1 2)
+unfolding loads set loadOf loaded refusal modesRefusal
+load-done = refl
+
+unfoldable pub fresh : List ℕ
+fresh = replicate 253 1
+
+fresh-good : noZero (padBytes fresh) ≡ true
+unfolding fresh padBytes
+fresh-good = refl
+
+fresh-long : length fresh ≡ 253
+unfolding fresh
+fresh-long = refl
+
+-- 30 04 04 02 00 01, framed: the first set's session, broken off
+unfoldable pub broken-off : Call
+broken-off = record { command = 0 ∷ 0x87 ∷ 0 ∷ 0 ∷ 6 ∷ 0x30 ∷ 4 ∷ 4 ∷ 2 ∷ 0 ∷ 1 ∷ 0 ∷ []; fresh = fresh; room = 256 }
+
+-- the reader lists 8 and 2, and wants mode 7. RSA is the identity here: what the platform decrypted for the second entry is the card's answer
+unfoldable pub exchange : List ℕ → Exchange
+exchange blocks =
+    record {
+      load = loads 1 2;
+      before = broken-off ∷ [];
+      ids = record { 0 = 8 } ∷ record { 0 = 2 } ∷ replicate 14 noId;
+      count = 2;
+      listOut = replicate 16 0;
+      fresh₁ = fresh;
+      room₁ = 256;
+      blocks = blocks;
+      faKey = replicate 16 2;
+      rnd2 = replicate 16 3;
+      mode = record { 0 = 7 };
+      payload = 1 ∷ 2 ∷ 3 ∷ [];
+      sealOut = replicate 54 0;
+      fresh₂ = fresh;
+      room₂ = 300;
+      work = replicate 96 0;
+    }
+
+unfoldable pub first : List ℕ
+first = answer₁ (exchange [])
+
+first-long : length first ≡ 256
+unfolding first exchange loads set fresh broken-off loadOf loaded refusal modesRefusal loadedCard filled listed listNumber listOutput listCommand encoded shortEntries part over cardAfter outcome answerBytes replyTo verdict frameOf statusOf whole dataOf padBytes initialReply slotOf firstPlace lengthAt entryAt head walked ber.listed str1 blockOf
+first-long = refl
+
+unfoldable pub session : Exchange
+session = exchange (replicate 256 0 ++ first)
+
+numbers-small : (i : ℕ) → getD (record { 0 = 8 } ∷ record { 0 = 2 } ∷ replicate 14 noId) i noId .0 < 65536
+numbers-small zero = omega arith
+numbers-small (suc zero) = omega arith
+numbers-small (suc (suc i)) = by 14 i
+  where
+    by : (n i : ℕ) → getD (replicate n noId) i noId .0 < 65536
+    by zero i = omega arith
+    by (suc n) zero = omega arith
+    by (suc n) (suc i) = by n i
+
+payload-small : Bytes (1 ∷ 2 ∷ 3 ∷ [])
+payload-small zero = omega arith
+payload-small (suc zero) = omega arith
+payload-small (suc (suc zero)) = omega arith
+payload-small (suc (suc (suc i))) = omega arith
+
+-- the block of the first entry does not open, and that of the second is the card's answer
+none-opens : (i : ℕ) → i < 1 → opensAs (getD (session .ids) i noId .0) (blockAt (session .blocks) i) ≡ false
+unfolding session exchange opensAs formed part
+none-opens zero h = refl
+none-opens (suc i) h = absurd (omega arith)
+
+decrypted : blockAt (session .blocks) 1 ≡ answer₁ session
+unfolding session exchange part first
+decrypted = ap (take 256) (drop-at (replicate 256 0) first 256 refl) ∙ take-all 256 first (omega (arith, first-long))
+
+none-earlier : (i j : ℕ) → i < 1 → j < 2 → getD (loads 1 2 .sets) j pastSet .id ≡ getD (session .ids) i noId → ⊥
+unfolding session exchange loads set
+none-earlier zero zero h l q = let z : _≡_ {A = ℕ} 1 8 = ap (λ (x : KeySetId). x .0) q in omega arith
+none-earlier zero (suc zero) h l q = let z : _≡_ {A = ℕ} 2 8 = ap (λ (x : KeySetId). x .0) q in omega arith
+none-earlier zero (suc (suc j)) h l q = omega arith
+none-earlier (suc i) j h l q = omega arith
+
+blocks-long : length (session .blocks) ≡ 512
+unfolding session exchange
+blocks-long = length-append (replicate 256 0) first ∙ omega (arith, first-long)
+
+-- the conditions of the session promise are met
+pub conditions : Conditions session
+unfolding session exchange loads set listed listNumber listOutput listCommand encoded shortEntries sealedOf sealNumber
+conditions =
+    record {
+      typed = load-typed 1 2 (omega arith) (omega arith);
+      succeeds = load-done;
+      place = 1;
+      set = 1;
+      place-listed = omega arith;
+      set-loaded = omega arith;
+      same-id = refl;
+      none-earlier = none-earlier;
+      same-key = refl;
+      decrypted = decrypted;
+      none-opens = none-opens;
+      at = 0;
+      mode-loaded = omega arith;
+      same-mode = refl;
+      list-done = refl;
+      first-done = no-number _ _ fresh 256 fresh-long fresh-good (omega arith);
+      open-done = open-counted (session .ids) 2 (session .blocks) (omega arith) (omega arith) blocks-long;
+      seal-done = refl;
+      second-done = no-number _ _ fresh 300 fresh-long fresh-good (omega arith);
+      accept-done = work-enough _ _ _ 96 (omega arith);
+      ids-long = refl;
+      ids-small = numbers-small;
+      mode-small = omega arith;
+      rnd2-block = block-of 3 (omega arith);
+      payload-bytes = payload-small;
+    }
+
+-- so the reader gets the sixteen bytes that the load was given for mode 7
+pub record-comes : returned session ≡ replicate 16 0xBB
+unfolding session exchange loads part conditions
+record-comes = session-promise session conditions .record-returned
+
+-- and those of demand 3, for two cards that hold other sets and for two lists of other data
+load-done-too : Succeeds (loads 3 4)
+unfolding loads set loadOf loaded refusal modesRefusal
+load-done-too = refl
+
+same-shill : Agree (cardOf (loads 1 2)) (cardOf (loads 3 4))
+unfolding loads set loadOf loaded refusal modesRefusal loadedCard
+same-shill = record { key = refl; handle = refl; size = refl }
+
+unfoldable pub other-list : Call
+other-list = record { command = 0 ∷ 0x87 ∷ 0 ∷ 0 ∷ 6 ∷ 0x30 ∷ 4 ∷ 4 ∷ 2 ∷ 0 ∷ 7 ∷ 0 ∷ []; fresh = fresh; room = 256 }
+
+pub both-alike : shapes (loads 1 2) (broken-off ∷ []) ≡ shapes (loads 3 4) (other-list ∷ [])
+unfolding frameOf part broken-off other-list
+both-alike =
+    demand-3 (loads 1 2) (load-typed 1 2 (omega arith) (omega arith)) load-done .alike (loads 3 4) (load-typed 3 4 (omega arith) (omega arith)) load-done-too same-shill
+    (more (record { frames = refl; lengths = refl; fresh = refl; rooms = refl }) none)
