@@ -5,3 +5,4 @@ pub mod SealAccepted
 pub mod Accepts
 pub mod Reply
 pub mod SealReply
+pub mod Converse
