@@ -2,11 +2,11 @@
 -- payload that its text names. Assumes nothing.
 use mathlib.Core.Path.{_≡_, refl, sym, ap, ap₂, _∙_}
 use mathlib.Core.Bool.{Bool, true, cond}
-use mathlib.Core.List.{List, _∷_, _++_}
+use mathlib.Core.List.{List, [], _∷_, _++_}
 use Prim.Native.Nat.{ℕ, suc, _+_, _-_, _*_, _/_, _%_, _<_, _≤_}
 use native.Mathlib.Omega.{arith}
-use lib.ListN.{length, getD, take, drop, replicate, length-drop, List·getD-append}
-use lib.Seq.{drop-cons, drop-drop, take-add, take-append-le, drop-append-le, length-take-le}
+use lib.ListN.{length, getD, take, drop, replicate, length-drop, take-append-drop, drop-of-length-le, List·getD-append}
+use lib.Seq.{drop-cons, drop-drop, take-add, take-append-le, drop-append-le}
 use Rattle.octets.specs.Bytes.{Bytes, Block}
 use Rattle.octets.specs.Lists.{part, over, length-part}
 use Rattle.octets.specs.Writes.{over-front}
@@ -15,17 +15,19 @@ use Rattle.aes.specs.Aes.{aes, invAes}
 use Rattle.aes.specs.RoundTrip.{aes-block}
 use Rattle.padding.specs.Method2.{blocksFor, padded, end, rightly, unpadded}
 use Rattle.padding.specs.Laws.{unpadded-lt, unpadded-whole, padded-unpadded}
-use Rattle.padding.specs.declared.Unpadded.the-variants.{Text, Malformed}
+use Rattle.padding.specs.declared.Unpadded.the-variants.{Text}
 use Rattle.cbc.specs.Cbc.{encrypted, decrypted, zeros}
 use Rattle.cbc.specs.Laws.{decrypted-bytes}
 use Rattle.cbc.specs.Aes.{aes-cipher, encrypted-decrypted-aes}
 use Rattle.cbc.specs.Lengths.{length-decrypted}
-use Rattle.frame.specs.Frame.{dataOf}
+use Rattle.frame.specs.Frame.{frameOf, insOf, finalIns, statusOf, dataOf}
+use Rattle.frame.specs.Laws.{Faultless, faultless, frame-byte, frame-last, data-long}
 use Rattle.plaid_types.specs.declared.Session.{Session}
 use Rattle.plaid_types.specs.declared.Card.{Card}
 use Rattle.load.specs.Laws.{Stocked}
 use Rattle.final_command.specs.Final.{faKeyOf, rnd1Of, diversified, blocksIn, textOf, hashedOf, keysHash, opMode, modeOf, decipheredText, acceptsFinal}
-use Rattle.reader_seal.specs.Seal.{keysHashOf, diversifiedBy, str2, sealedData, sealCommand}
+use Rattle.reader_seal.specs.Seal.{keysHashOf, diversifiedBy, str2, sealedData, finalCommand, sealCommand}
+use Rattle.reader_seal.specs.Laws.{length-sealedData}
 use Rattle.session_final.specs.SealFrame.{seal-data}
 use Rattle.session_final.specs.Buffer.{over-part}
 use Rattle.session_final.specs.SealText.{SharedSession, sealed}
@@ -214,3 +216,57 @@ module _ (c : Card) (d : List ℕ) (g : Stocked c) (hf : Bytes (faKeyOf c)) (hv 
         sealed-text = sym sealed-again;
         by-seal = by-seal-is;
       }
+
+-- a command of 6 + n bytes: its first five, n, and the last
+command-parts : (l : List ℕ) (n : ℕ) → length l ≡ 6 + n →
+    l ≡ getD l 0 0 ∷ getD l 1 0 ∷ getD l 2 0 ∷ getD l 3 0 ∷ getD l 4 0 ∷ (part l 5 n ++ (getD l (5 + n) 0 ∷ []))
+unfolding part
+command-parts l n h =
+    let a : drop 5 l ≡ take n (drop 5 l) ++ (getD l (5 + n) 0 ∷ []) =
+    sym (take-append-drop n (drop 5 l))
+    ∙ ap (λ (t : List ℕ). take n (drop 5 l) ++ t)
+    (drop-drop n 5 l
+    ∙ drop-cons l (5 + n) 0 (omega arith)
+    ∙ ap (λ (t : List ℕ). getD l (5 + n) 0 ∷ t) (drop-of-length-le l {i = suc (5 + n)} (omega arith))) in
+    drop-cons l 0 0 (omega arith)
+    ∙ ap (λ (t : List ℕ). getD l 0 0 ∷ t) (drop-cons l 1 0 (omega arith)
+    ∙ ap (λ (t : List ℕ). getD l 1 0 ∷ t) (drop-cons l 2 0 (omega arith)
+    ∙ ap (λ (t : List ℕ). getD l 2 0 ∷ t) (drop-cons l 3 0 (omega arith)
+    ∙ ap (λ (t : List ℕ). getD l 3 0 ∷ t) (drop-cons l 4 0 (omega arith) ∙ ap (λ (t : List ℕ). getD l 4 0 ∷ t) a))))
+
+-- a final command whose frame has no fault is "framed as a final command": 00 86 00 00, Lc, the data, 00
+framed-again : (cmd : List ℕ) → Faultless (length cmd) (frameOf cmd) → insOf (frameOf cmd) ≡ finalIns → cmd ≡ finalCommand (length (dataOf cmd)) (dataOf cmd)
+unfolding finalCommand dataOf
+framed-again cmd k i =
+    let at : 5 + (length cmd - 6) ≡ length cmd - 1 = omega arith in
+    command-parts cmd (length cmd - 6) (omega arith)
+    ∙ rw (
+      at,
+      sym (frame-byte cmd 0 (omega arith)) ∙ k .cla,
+      sym (frame-byte cmd 1 (omega arith)) ∙ i,
+      sym (frame-byte cmd 2 (omega arith)) ∙ k .p1,
+      sym (frame-byte cmd 3 (omega arith)) ∙ k .p2,
+      sym (frame-byte cmd 4 (omega arith)) ∙ sym (data-long cmd k),
+      sym (frame-last cmd (omega arith)) ∙ k .le,
+    )
+
+data-bytes : (cmd : List ℕ) → Bytes cmd → Bytes (dataOf cmd)
+unfolding dataOf
+data-bytes cmd h = part-bytes cmd 5 (length cmd - 6) h
+
+-- so a final command that a card accepts is Seal's command, byte for byte
+pub accepted-command : (c : Card) (cmd : List ℕ) → Stocked c → Bytes (faKeyOf c) → Bytes (c .«div_data») → Bytes cmd →
+    statusOf (length cmd) (frameOf cmd) ≡ 0x9000 → insOf (frameOf cmd) ≡ finalIns → acceptsFinal c (dataOf cmd) ≡ true →
+    cmd ≡ sealCommand (faKeyOf c) (c .«div_data») (rnd1Of c) (rnd2In c (dataOf cmd)) (modeIn c (dataOf cmd)) (payloadIn c (dataOf cmd))
+unfolding sealCommand
+accepted-command c cmd g hf hv hb q i e =
+    let d : List ℕ = dataOf cmd in
+    let k : Faultless (length cmd) (frameOf cmd) = faultless (length cmd) (frameOf cmd) q in
+    let most : length d < 256 = omega (arith, data-long cmd k, frame-byte cmd 4 (omega arith), hb 4) in
+    let key : List ℕ = diversifiedBy (faKeyOf c) (c .«div_data») in
+    let hash : List ℕ = keysHashOf (rnd1Of c) (rnd2In c d) in
+    let x : d ≡ sealedData key (modeIn c d) (rnd2In c d) (payloadIn c d) hash =
+    accepted-sealed c d g hf hv (data-bytes cmd hb) most e .by-seal
+    ∙ seal-data (faKeyOf c) (c .«div_data») (rnd1Of c) (rnd2In c d) (modeIn c d) (payloadIn c d) in
+    framed-again cmd k i
+    ∙ ap₂ finalCommand (ap length x ∙ length-sealedData key (modeIn c d) (rnd2In c d) (payloadIn c d) hash) x
