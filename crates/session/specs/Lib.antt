@@ -1,3 +1,4 @@
 pub mod Parts
+pub mod Opens
 pub mod Promise
 pub mod Edges

@@ -35,7 +35,7 @@ use Rattle.session_final.specs.Accepts.{SixConditions, six-conditions, F
 use Rattle.session_final.specs.Reply.{namedSlot}
 
 -- a front of a list by its parts: two elements, and then n, m and k
-front-parts : (l : List ℕ) (n m k : ℕ) → 2 ≤ length l →
+pub front-parts : (l : List ℕ) (n m k : ℕ) → 2 ≤ length l →
     take (2 + (n + (m + k))) l ≡ getD l 0 0 ∷ getD l 1 0 ∷ (part l 2 n ++ (part l (2 + n) m ++ part l (2 + n + m) k))
 unfolding part
 front-parts l n m k h =
