@@ -53,7 +53,7 @@ part-front : (s t : List ℕ) (p n : ℕ) → p + n ≤ length s → part (s ++ 
 unfolding part
 part-front s t p n h = ap (take n) (drop-append-le p s t (omega arith)) ∙ take-append-le n (drop p s) t (omega (arith, length-drop p s))
 
--- what is rightly padded is the padding of its text
+-- what is rightly padded unpads to the bytes before its 0x80
 unpads : (s : List ℕ) → rightly s ≡ true → unpadded s ≡ Text (end s - 1)
 unfolding unpadded
 unpads s e = rw e
