@@ -25,7 +25,7 @@ use Rattle.reader_seal.specs.Seal.{keysHashOf, sealCommand, sealNumber, sealDec
 use Rattle.reader_seal.specs.declared.Sealed.{Sealed}
 use Rattle.session_initial.specs.Held.{heldIn, held, firstOf, Holds, slot-holds, IsFirst, first-is}
 use Rattle.session_final.specs.Buffer.{over-part}
-use Rattle.session_final.specs.SealReply.{first-found}
+use Rattle.session_final.specs.Accepts.{first-found}
 
 -- one of two numbers that are neither below the other
 pub level : (a b : ℕ) → (a < b → ⊥) → (b < a → ⊥) → a ≡ b

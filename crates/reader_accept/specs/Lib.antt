@@ -1,3 +1,4 @@
 pub mod Accept
 pub mod Laws
 pub mod RoundTrip
+pub mod Converse
