@@ -20,7 +20,7 @@ use Rattle.plaid_types.specs.declared.ModeSlot.{ModeSlot}
 use Rattle.plaid_types.specs.declared.Session.{Session}
 use Rattle.plaid_types.specs.declared.Card.{Card}
 use Rattle.load.specs.Load.{refusal, badRecord, filled, setSlot, modeSlot, loadedCard, blankCard, loaded}
-use Rattle.load.specs.Laws.{pastSet, pastMode, neither, some-none, Accepted, accepted, setAt, modeAt, set-held, mode-held, set-given, Stocked, IsLoaded, is-loaded, load-made}
+use Rattle.load.specs.Laws.{pastSet, pastMode, neither, some-none, Accepted, accepted, setAt, modeAt, set-held, mode-held, set-given, mode-given, Stocked, IsLoaded, is-loaded, load-made}
 use Rattle.load.specs.declared.Loaded.{Loaded}
 use Rattle.card.specs.Demand3.{Sound}
 use Rattle.plaid.specs.Interface.{loadOf}
@@ -78,6 +78,15 @@ module _ (l : Load) (ok : Succeeds l) where
   pub sets-most : length (l .sets) ≤ 8
   sets-most = shown .sets-most
 
+  -- a mode that is held was counted
+  pub mode-counted : length (l .given .modes) ≡ 16 → (i : ℕ) → modeAt (cardOf l) i .held ≡ true → i < l .given .«mode_count»
+  mode-counted t i e =
+      omega (
+        arith,
+        mode-given (l .sets) modes (l .area) (l .given .«div_data») (l .given .«shill_key») (l .given .«shill_handle») i (sym (ap (λ (c : Card). modeAt c i .held) card-is) ∙ e),
+        length-take-le (l .given .«mode_count») (l .given .modes) (omega (arith, shown .modes-most)),
+      )
+
   -- the mode of a place below the count, and its record
   module _ (t : length (l .given .modes) ≡ 16) (i : ℕ) (h : i < l .given .«mode_count») where
     modes-long : length modes ≡ l .given .«mode_count»
@@ -134,6 +143,10 @@ module _ (l : Load) (ok : Succeeds l) where
           rnd1 = ap (λ (s : Session). length (s .rnd1)) (k .no-session);
           size = k .stocked .size-most;
         }
+
+    pub key-given : cardOf l .«shill_key» ≡ l .given .«shill_key»
+    unfolding loadedCard
+    key-given = ap (λ (c : Card). c .«shill_key») card-is
 
     pub div-given : cardOf l .«div_data» ≡ l .given .«div_data»
     unfolding loadedCard
