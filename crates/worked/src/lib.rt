@@ -1,0 +1,1 @@
+//! Worked examples of the cipher standards, as theorems over the definitions. No code.
