@@ -33,14 +33,14 @@ refusal-zero r c true e z = eqb-true r 0 e
 refusal-zero r c false e z = z
 
 module _ (sets : List KeySet) (g : Given) (area : List ℕ) (t : Typed sets g) (ok : loadOf sets g area .number ≡ 0) where
-  zero-refusal : refusal sets (length sets) (g .modes) (g .«mode_count») (length area) (g .«shill_handle») ≡ 0
+  pub zero-refusal : refusal sets (length sets) (g .modes) (g .«mode_count») (length area) (g .«shill_handle») ≡ 0
   unfolding loadOf loaded
   zero-refusal =
       refusal-zero (refusal sets (length sets) (g .modes) (g .«mode_count») (length area) (g .«shill_handle»))
       (loadedCard (take (length sets) sets) (take (g .«mode_count») (g .modes)) area (g .«div_data») (g .«shill_key») (g .«shill_handle»))
       (eqb (refusal sets (length sets) (g .modes) (g .«mode_count») (length area) (g .«shill_handle»)) 0) refl ok
 
-  card-is : loadOf sets g area .card ≡ loadedCard (take (length sets) sets) (take (g .«mode_count») (g .modes)) area (g .«div_data») (g .«shill_key») (g .«shill_handle»)
+  pub card-is : loadOf sets g area .card ≡ loadedCard (take (length sets) sets) (take (g .«mode_count») (g .modes)) area (g .«div_data») (g .«shill_key») (g .«shill_handle»)
   unfolding loadOf
   card-is =
       ap (λ (r : Loaded). r .card)
