@@ -29,10 +29,14 @@ use Rattle.plaid_types.specs.declared.Session.{Session}
 use Rattle.plaid_types.specs.declared.Card.{Card}
 use Rattle.load.specs.Load.{setSlot, modeSlot, replySize, refusal, modesRefusal, loadedCard, loaded}
 use Rattle.load.specs.Laws.{Accepted, accepted as allowed, pastSet, pastMode, setAt, modeAt, GoodRecord, Stocked, IsLoaded, set-held, set-given, mode-held}
-use Rattle.frame.specs.Frame.{frameOf, initialIns, insOf, lcOf, whole, statusOf, dataOf}
+use Rattle.frame.specs.Frame.{frameOf, initialIns, finalIns, insOf, lcOf, whole, statusOf, dataOf}
+use Rattle.frame.specs.Laws.{frame-byte}
 use Rattle.frame.specs.Declines.{noZero, padBytes, verdict}
 use Rattle.list.specs.Ber.{lengthAt, entryAt, head, walked, listed, placeCount}
 use Rattle.initial.specs.Initial.{firstSlot, firstPlace, slotOf, acceptsInitial, str1, blockOf, initialReply}
+use Rattle.final_command.specs.Final.{decipheredText, keysHash, modeOf, sizeOf, accepting, acceptsFinal, replyKey, replyText, replyBuffer, finalBytes, finalReply}
+use Rattle.final_command.specs.Laws.{size-loaded}
+use Rattle.session_final.specs.SealFrame.{framed-status, framed-ins, framed-data}
 use Rattle.session_initial.specs.Held.{heldIn, Holds, slot-holds, slot-missing}
 use Rattle.card.specs.Command.{replyTo, verdictOn, outcome, answerBytes}
 use Rattle.card.specs.Lists.{Call, outcomeOf, bytesOf, run, isInitial, accepted, Shape, shapeOf, initialShape, finalShape, formulas}
@@ -110,6 +114,23 @@ pub record Refused (l : Load) (n : ℕ) (c : Card) (x : Call) : Type 0 where
   pub card : outcomeOf c x .card ≡ withSession (cardOf l) noSession
   pub block : bytesOf c x ≡ 0 ∷ 2 ∷ (drop 50 (x .fresh) ++ (0 ∷ part (x .fresh) 0 50))
 
+-- "final, .. B 3: refused, n .., 4 encipherments": the call is not accepted, "the first 16B fresh bytes go by CBC under the shill key, unpadded", and "the
+-- session closes either way"
+pub record FinalRefused (l : Load) (n : ℕ) (c : Card) (x : Call) : Type 0 where
+  pub number : outcomeOf c x .answer .number ≡ 0
+  pub status : outcomeOf c x .answer .status ≡ 0x9000
+  pub decipherments : outcomeOf c x .answer .decipherments ≡ n
+  pub encipherments : outcomeOf c x .answer .encipherments ≡ 4
+  pub size : outcomeOf c x .answer .length ≡ 48
+  pub handle : outcomeOf c x .answer .handle ≡ 0
+  pub card : outcomeOf c x .card ≡ withSession (cardOf l) noSession
+  pub refused : accepted c x ≡ false
+  pub reply : bytesOf c x ≡ encrypted (aes 4 (l .given .«shill_key»)) zeros 3 (part (x .fresh) 0 48)
+
+-- the same of every final command with lc data bytes, whatever they are
+abbrev pub Final : ℕ → ℕ → Type 0
+Final lc n = Of (λ l. cardOf l .«reply_size» ≡ 3) (λ l. (d : List ℕ) → length d ≡ lc → EachCall l (framed 0x86 d) (FinalRefused l n))
+
 -- its mode number i has a record of n bytes
 pub record Records (l : Load) (i n : ℕ) : Type 0 where
   pub within : i < l .given .«mode_count»
@@ -162,6 +183,9 @@ edges =
     -- "last block 80 and fifteen 00: good; sixteen 00: bad"
     Good (0x80 ∷ replicate 15 0) ∷
     Bad (replicate 16 0) ∷
+    -- "final, Lc 255, B 3: refused, n 15, 4 encipherments; Lc 1: n 0"
+    Final 255 15 ∷
+    Final 1 0 ∷
     []
 
 -- what a load made
@@ -548,6 +572,76 @@ bad s w =
     let u : unpadded (s ++ replicate 16 0) ≡ Malformed = seen-none (s ++ replicate 16 0) (bad-seen s) in
     (not-rightly (s ++ replicate 16 0) (rightly (s ++ replicate 16 0)) refl u, u)
 
+-- a final command whose Lc is no multiple of 16
+not-accepting : (opened : Bool) (lc : ℕ) (s hash : List ℕ) (mode : ℕ) → (lc % 16 ≡ 0 → ⊥) → accepting opened lc s hash mode ≡ false
+unfolding accepting
+not-accepting true lc s hash mode h = rw (ne-eqb (lc % 16) 0 h)
+not-accepting false lc s hash mode h = refl
+
+module _ (l : Load) (b : cardOf l .«reply_size» ≡ 3) (d : List ℕ) (some-data : 0 < length d) (odd : length d % 16 ≡ 0 → ⊥) (s : Session) (fresh : List ℕ) (room : ℕ) (lr : length (s .rnd1) ≡ 16) (t : Lent fresh room) where
+  abbrev c₂ : Card
+  c₂ = withSession (cardOf l) s
+
+  abbrev x₂ : Call
+  x₂ = record { command = framed 0x86 d; fresh = fresh; room = room }
+
+  frame-status : statusOf (length (framed 0x86 d)) (frameOf (framed 0x86 d)) ≡ 0x9000
+  unfolding finalCommand
+  frame-status = framed-status (length d) d refl some-data
+
+  frame-ins : insOf (frameOf (framed 0x86 d)) ≡ finalIns
+  unfolding finalCommand
+  frame-ins = framed-ins (length d) d refl
+
+  frame-data : dataOf (framed 0x86 d) ≡ d
+  unfolding finalCommand
+  frame-data = framed-data (length d) d refl
+
+  frame-lc : lcOf (frameOf (framed 0x86 d)) ≡ length d
+  frame-lc = frame-byte (framed 0x86 d) 4 (omega arith)
+
+  right₂ : verdictOn (framed 0x86 d) fresh room .status ≡ 0x9000
+  right₂ = passes (framed 0x86 d) fresh room t frame-status
+
+  reply-is₂ : replyTo c₂ (framed 0x86 d) fresh ≡ finalReply c₂ d fresh
+  unfolding replyTo
+  reply-is₂ = rw (frame-ins, frame-data)
+
+  shape-is₂ : shapeOf (outcomeOf c₂ x₂ .answer) ≡ finalShape 3 (length d)
+  shape-is₂ = call-shape c₂ x₂ right₂ (sound-in l s lr) ∙ rw (frame-ins, frame-lc, b)
+
+  refuses : acceptsFinal c₂ d ≡ false
+  unfolding acceptsFinal
+  refuses = not-accepting (s .opened) (length d) (decipheredText c₂ d) (keysHash c₂ d) (modeOf c₂ d) odd
+
+  key-is : cardOf l .«shill_key» ≡ l .given .«shill_key»
+  unfolding given-card loadedCard
+  key-is = ap (λ (k : Card). k .«shill_key») (card-given l)
+
+  size-three : sizeOf c₂ ≡ 3
+  size-three = size-loaded c₂ (omega arith) ∙ b
+
+  reply-bytes : finalReply c₂ d fresh .bytes ≡ encrypted (aes 4 (l .given .«shill_key»)) zeros 3 (part fresh 0 48)
+  unfolding finalReply finalBytes replyKey replyBuffer replyText
+  reply-bytes =
+      rw (refuses, size-three, key-is, over-front)
+      (encrypted-front (aes 4 (l .given .«shill_key»)) 3 zeros (part fresh 0 48) _ (omega (arith, length-part fresh 0 48 (omega (arith, t .fresh-long)))))
+
+  final-refused : FinalRefused l (length d / 16) c₂ x₂
+  unfolding finalReply accepted
+  final-refused =
+      record {
+        number = ap (λ (y : Shape). y .number) shape-is₂;
+        status = ap (λ (y : Shape). y .status) shape-is₂;
+        decipherments = ap (λ (y : Shape). y .decipherments) shape-is₂;
+        encipherments = ap (λ (y : Shape). y .encipherments) shape-is₂;
+        size = ap (λ (y : Shape). y .size) shape-is₂;
+        handle = call-handle c₂ x₂ right₂ ∙ ap (λ (r : Reply). r .handle) reply-is₂;
+        card = call-card c₂ x₂ right₂ ∙ ap (λ (r : Reply). withSession c₂ (r .session)) reply-is₂;
+        refused = rw (frame-ins, frame-data, refuses, right₂);
+        reply = call-bytes c₂ x₂ right₂ ∙ ap (λ (r : Reply). r .bytes) reply-is₂ ∙ reply-bytes;
+      }
+
 some-one : (l : Load) × ((i : ℕ) × Gave l i 1)
 unfolding load-16 load-of set
 some-one = (load-16, (0, record { within = omega arith; id = refl }))
@@ -577,6 +671,17 @@ one-81-edge = (some-one, λ l p. answers-one-81 l (p .0) (p .1))
 five-edge : Of (λ l. Gave l 0 2 × Gave l 1 5) (λ l. EachCall l (framed 0x87 five-two) (Answered l 5 16))
 five-edge = (some-two, λ l p. answers-five l 1 (p .1))
 
+some-three : (l : Load) × (cardOf l .«reply_size» ≡ 3)
+some-three = (load-16, size-is load-16 0 16 record-16)
+
+final-255-edge : Final 255 15
+final-255-edge =
+    (some-three, λ l b d e s fresh room lr t. rw (ap (λ (n : ℕ). n / 16) e) at (final-refused l b d (omega arith) (λ z. omega arith) s fresh room lr t))
+
+final-1-edge : Final 1 0
+final-1-edge =
+    (some-three, λ l b d e s fresh room lr t. rw (ap (λ (n : ℕ). n / 16) e) at (final-refused l b d (omega arith) (λ z. omega arith) s fresh room lr t))
+
 pub all-edges : All edges
 unfolding edges
 all-edges =
@@ -594,4 +699,6 @@ all-edges =
     seals 205 (omega arith) and
     good and
     bad and
+    final-255-edge and
+    final-1-edge and
     end
