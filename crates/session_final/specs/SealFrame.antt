@@ -25,7 +25,7 @@ module _ (lc : ℕ) (d : List ℕ) (e : length d ≡ lc) where
   unfolding finalCommand
   framed-last = getD-at (0 ∷ 0x86 ∷ 0 ∷ 0 ∷ lc ∷ d) 0 [] 0 (length (finalCommand lc d) - 1) (omega (arith, length-command lc d))
 
-  pub framed-ins : insOf (frameOf (finalCommand lc d)) ≡ finalIns
+  framed-ins : insOf (frameOf (finalCommand lc d)) ≡ finalIns
   unfolding finalCommand
   framed-ins = frame-byte (finalCommand lc d) 1 (omega arith)
 
