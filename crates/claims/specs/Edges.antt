@@ -9,7 +9,6 @@ use Rattle.octets.specs.Lists.{part}
 use Rattle.aes.specs.Aes.{aes}
 use Rattle.cbc.specs.Cbc.{zeros, encrypted}
 use Rattle.padding.specs.Method2.{rightly, unpadded}
-use Rattle.padding.specs.declared.Unpadded.{Unpadded}
 use Rattle.padding.specs.declared.Unpadded.the-variants.{Text, Malformed}
 use Rattle.plaid_types.specs.Cards.{noSession, withSession}
 use Rattle.plaid_types.specs.declared.KeySet.{KeySet}

@@ -18,7 +18,7 @@ use Rattle.padding.specs.Method2.{zeroBytes, padded, rightly, unpadded}
 use Rattle.padding.specs.Laws.{Seen, seen, rightly-seen, seen-none, unpadded-padded, textEnd-le}
 use Rattle.padding.specs.declared.Unpadded.the-variants.{Text, Malformed}
 use Rattle.steps.specs.Made.{matched}
-use Rattle.plaid_types.specs.Cards.{noSet, noSession, withSession, Reply}
+use Rattle.plaid_types.specs.Cards.{noSet, withSession, Reply}
 use Rattle.plaid_types.specs.declared.KeySet.{KeySet}
 use Rattle.plaid_types.specs.declared.KeySetSlot.{KeySetSlot}
 use Rattle.plaid_types.specs.declared.Mode.{Mode}
@@ -32,7 +32,7 @@ use Rattle.frame.specs.Laws.{frame-byte}
 use Rattle.frame.specs.Declines.{noZero, padBytes, verdict}
 use Rattle.list.specs.Ber.{lengthAt, entryAt, head, walked, listed, placeCount}
 use Rattle.initial.specs.Initial.{firstSlot, firstPlace, slotOf, acceptsInitial, str1, blockOf, initialReply}
-use Rattle.final_command.specs.Final.{decipheredText, keysHash, modeOf, sizeOf, accepting, acceptsFinal, replyKey, replyText, replyBuffer, finalBytes, finalReply}
+use Rattle.final_command.specs.Final.{decipheredText, keysHash, modeOf, accepting, acceptsFinal, replyKey, replyText, replyBuffer, finalBytes, finalReply}
 use Rattle.final_command.specs.Laws.{size-loaded}
 use Rattle.card.specs.Command.{replyTo, verdictOn, outcome, answerBytes}
 use Rattle.card.specs.Lists.{Call, outcomeOf, bytesOf, run, accepted, Shape, shapeOf, initialShape, finalShape, formulas}
@@ -42,9 +42,9 @@ use Rattle.reader_seal.specs.Laws.{length-sealCommand}
 use Rattle.session_initial.specs.Held.{heldIn, Holds, slot-holds, slot-missing}
 use Rattle.session_final.specs.SealFrame.{framed-status, framed-data}
 use Rattle.plaid.specs.Interface.{loadOf}
-use Rattle.plaid.specs.Demand3.{Typed, zero-refusal, card-is, is-a-load, sound}
+use Rattle.plaid.specs.Demand3.{zero-refusal, card-is, is-a-load, sound}
 use Rattle.plaid.specs.declared.Given.{Given}
-use Rattle.claims.specs.Edges.{Load, cardOf, Of, OfAll, Gave, framed, Lent, EachCall, Answered, Refused, FinalRefused, Final, Records, Size, SealedWith, Seals, Good, Bad, edges, All, end, _and_}
+use Rattle.claims.specs.Edges.{Load, cardOf, Of, OfAll, Gave, framed, Lent, EachCall, Answered, Refused, FinalRefused, Final, Records, Size, Seals, Good, Bad, edges, All, end, _and_}
 
 -- what a load made
 module _ (l : Load) where
