@@ -135,6 +135,10 @@ load-two : (l : Load) × (Gave l 0 2 × Gave l 1 5)
 unfolding set given load-of loadOf loaded refusal modesRefusal
 load-two = (load-of (set 2 ∷ set 5 ∷ []) 16 keys-two refl, (record { within = omega arith; id = refl }, record { within = omega arith; id = refl }))
 
+-- there are such fresh bytes and outputs
+pub some-lent : Lent (replicate 253 1) 256
+some-lent = record { fresh-long = refl; pads-nonzero = λ i h k e. let q = sym (getD-replicate 253 i 1 0 k) ∙ e in omega arith; room-enough = omega arith }
+
 -- a call is not declined that is lent what it needs and whose frame has no fault
 no-zero : (s : List ℕ) → ((i : ℕ) → i < length s → getD s i 0 ≡ 0 → ⊥) → noZero s ≡ true
 no-zero [] f = refl
