@@ -10,7 +10,7 @@ use Rattle.plaid_types.specs.Cards.{noSession}
 use Rattle.plaid_types.specs.declared.Outcome.{Outcome}
 use Rattle.card.specs.Lists.{Call, Shape, run, sessionAfter, stepsOf, shapeOf, formulasOf, Agree, AllAlike, Indistinct}
 use Rattle.card.specs.Demand3.{list-formulas, place, call-sum, lists-alike, lists-indistinct}
-use Rattle.claims.specs.Load.{Load, cardOf, Succeeds, Typed}
+use Rattle.claims.specs.Load.{Load, cardOf}
 use Rattle.claims.specs.Loaded.{is-a-load, sound}
 
 -- number, status, counts and answer length at each place of a list of commands on the card that a load returned
@@ -27,18 +27,18 @@ pub record Demand3 (l : Load) : Type 0 where
       → getD (run (cardOf l) (xs ++ (x ∷ ys))) (length xs) o .answer .sum ≡ workSum (stepsOf (cardOf l) (sessionAfter (cardOf l) noSession xs) x)
   -- "two such lists on two such cards": of another load m, where the cards agree in shill keys and reply size and the lists, place by place, in frame,
   -- length, fresh bytes and output size. Number, status, counts and length are alike at every place
-  pub alike : (m : Load) → Typed m → Succeeds m → Agree (cardOf l) (cardOf m) → {xs ys : List Call} → AllAlike xs ys → shapes l xs ≡ shapes m ys
+  pub alike : (m : Load) → Agree (cardOf l) (cardOf m) → {xs ys : List Call} → AllAlike xs ys → shapes l xs ≡ shapes m ys
   -- and where neither card accepts, the answer bytes and the key handle are too
   pub indistinct :
-      (m : Load) → Typed m → Succeeds m → Agree (cardOf l) (cardOf m) → {xs ys : List Call} → AllAlike xs ys → Indistinct (cardOf l) (cardOf m) xs ys
+      (m : Load) → Agree (cardOf l) (cardOf m) → {xs ys : List Call} → AllAlike xs ys → Indistinct (cardOf l) (cardOf m) xs ys
 
-pub demand-3 : (l : Load) → Typed l → Succeeds l → Demand3 l
-demand-3 l t ok =
+pub demand-3 : (l : Load) → Demand3 l
+demand-3 l =
     record {
-      formulas = λ xs. list-formulas xs (cardOf l) (sound l ok t);
+      formulas = λ xs. list-formulas xs (cardOf l) (sound l);
       sums =
-          λ xs ys x o. ap (λ (r : Outcome). r .answer .sum) (place (cardOf l) xs ys x o (is-a-load l ok t .no-session))
+          λ xs ys x o. ap (λ (r : Outcome). r .answer .sum) (place (cardOf l) xs ys x o (is-a-load l .no-session))
           ∙ call-sum (cardOf l) (sessionAfter (cardOf l) noSession xs) x;
-      alike = λ m u k g a. lists-alike (cardOf l) (cardOf m) (sound l ok t) (sound m k u) g a;
-      indistinct = λ m u k g a. lists-indistinct (cardOf l) (cardOf m) g a;
+      alike = λ m g a. lists-alike (cardOf l) (cardOf m) (sound l) (sound m) g a;
+      indistinct = λ m g a. lists-indistinct (cardOf l) (cardOf m) g a;
     }

@@ -41,7 +41,7 @@ or-right true b e = refl
 or-right false b e = e
 
 -- a KeySetID is held where a slot holds it
-held-there : (ss : List KeySetSlot) (k j : ℕ) → j < length ss → getD ss j noSet .held ≡ true → getD ss j noSet .id .0 ≡ k → heldIn ss k ≡ true
+pub held-there : (ss : List KeySetSlot) (k j : ℕ) → j < length ss → getD ss j noSet .held ≡ true → getD ss j noSet .id .0 ≡ k → heldIn ss k ≡ true
 held-there [] k j h a b = absurd (not-suc-le-zero h)
 held-there (s ∷ ss) k zero h a b = rw (a, eq-eqb k (s .id .0) (sym b))
 held-there (s ∷ ss) k (suc j) h a b = or-right (matched true k (s .held) (s .id .0)) (heldIn ss k) (held-there ss k j (le-of-suc-le-suc h) a b)

@@ -12,7 +12,7 @@ use Rattle.final_command.specs.Final.{faKeyOf}
 use Rattle.card.specs.Lists.{Call, cardAfter, sessionAfter}
 use Rattle.card.specs.Demand3.{card-after}
 use Rattle.session.specs.Kept.{HeldIn, Lawful, none-lawful, after-lawful, key-of-session}
-use Rattle.claims.specs.Load.{Load, cardOf, Succeeds, Typed}
+use Rattle.claims.specs.Load.{Load, cardOf}
 use Rattle.claims.specs.Loaded.{is-a-load}
 
 pub record Kept (l : Load) (c : Card) : Type 0 where
@@ -26,22 +26,22 @@ pub record Kept (l : Load) (c : Card) : Type 0 where
   -- so its FAKey is that of the slot that holds it, and what stands in for a set that is not held is never used
   pub key : (o : c .session .opened ≡ true) → faKeyOf c ≡ setAt c (held o .slot) .«fa_key»
 
-module _ (l : Load) (t : Typed l) (ok : Succeeds l) (xs : List Call) where
+module _ (l : Load) (xs : List Call) where
   s : Session
   s = sessionAfter (cardOf l) noSession xs
 
   after-is : cardAfter (cardOf l) xs ≡ withSession (cardOf l) s
   unfolding s
   after-is =
-      ap (λ (z : Session). cardAfter (withSession (cardOf l) z) xs) (is-a-load l ok t .no-session) ∙ card-after (cardOf l) noSession xs
+      ap (λ (z : Session). cardAfter (withSession (cardOf l) z) xs) (is-a-load l .no-session) ∙ card-after (cardOf l) noSession xs
 
   lawful : Lawful (cardOf l) s
   unfolding s
-  lawful = after-lawful (cardOf l) (is-a-load l ok t .stocked) noSession (none-lawful (cardOf l)) xs
+  lawful = after-lawful (cardOf l) (is-a-load l .stocked) noSession (none-lawful (cardOf l)) xs
 
   kept-by : Kept l (withSession (cardOf l) s)
   kept-by =
-      let g = stocked-session (cardOf l) s (is-a-load l ok t .stocked) in
+      let g = stocked-session (cardOf l) s (is-a-load l .stocked) in
       let h : s .opened ≡ true → HeldIn (withSession (cardOf l) s) s = λ o. let a = lawful .held o in record { slot = a .slot; holds = a .holds } in
       record { same = refl; stocked = g; rnd1 = lawful .rnd1; held = h; key = λ o. key-of-session (withSession (cardOf l) s) g o (h o) }
 

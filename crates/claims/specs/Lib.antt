@@ -5,4 +5,7 @@ pub mod Kept
 pub mod Reply
 pub mod Found
 pub mod Session
+pub mod Loads
 pub mod Witness
+pub mod Edges
+pub mod EdgesHold

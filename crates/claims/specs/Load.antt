@@ -10,24 +10,23 @@ use Rattle.load.specs.Laws.{pastSet}
 use Rattle.plaid.specs.Interface.{loadOf}
 use Rattle.plaid.specs.declared.Given.{Given}
 
--- "A load gives 1 to 8 key sets .., 1 to 16 modes .., DivData .., a shill AES key and a shill RSA handle", and a record area
+-- what the types of its arguments say: an array of sixteen modes, keys and DivData of sixteen bytes, and an area of bytes
+pub record Typed (sets : List KeySet) (given : Given) (area : List ℕ) : Type 0 where
+  pub modes : length (given .modes) ≡ 16
+  pub div : Block (given .«div_data»)
+  pub key : Block (given .«shill_key»)
+  pub keys : (i : ℕ) → i < length sets → Block (getD sets i pastSet .«fa_key»)
+  pub area-bytes : Bytes area
+
+-- "a successful load", number 0: "A load gives 1 to 8 key sets .., 1 to 16 modes .., DivData .., a shill AES key and a shill RSA handle", and a record
+-- area
 pub record Load : Type 0 where
   pub sets : List KeySet
   pub given : Given
   pub area : List ℕ
+  pub typed : Typed sets given area
+  pub success : loadOf sets given area .number ≡ 0
 
 -- the card that it returned
 abbrev pub cardOf : Load → Card
 cardOf l = loadOf (l .sets) (l .given) (l .area) .card
-
--- "a successful load": number 0
-abbrev pub Succeeds : Load → Type 0
-Succeeds l = loadOf (l .sets) (l .given) (l .area) .number ≡ 0
-
--- what the types of its arguments say: an array of sixteen modes, keys and DivData of sixteen bytes, and an area of bytes
-pub record Typed (l : Load) : Type 0 where
-  pub modes : length (l .given .modes) ≡ 16
-  pub div : Block (l .given .«div_data»)
-  pub key : Block (l .given .«shill_key»)
-  pub keys : (i : ℕ) → i < length (l .sets) → Block (getD (l .sets) i pastSet .«fa_key»)
-  pub area-bytes : Bytes (l .area)

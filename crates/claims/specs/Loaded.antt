@@ -24,7 +24,7 @@ use Rattle.load.specs.Laws.{pastSet, pastMode, neither, some-none, Accepted, ac
 use Rattle.load.specs.declared.Loaded.{Loaded}
 use Rattle.card.specs.Demand3.{Sound}
 use Rattle.plaid.specs.Interface.{loadOf}
-use Rattle.claims.specs.Load.{Load, cardOf, Succeeds, Typed}
+use Rattle.claims.specs.Load.{Load, cardOf}
 
 refusal-zero : (r : ℕ) (c : Card) (t : Bool) → eqb r 0 ≡ t → cond {A = Loaded} t (record { number = 0; card = c }) (record { number = r; card = blankCard }) .number ≡ 0 → r ≡ 0
 refusal-zero r c true e z = eqb-true r 0 e
@@ -41,7 +41,7 @@ filled-bytes : (n : ℕ) (area : List ℕ) → Bytes area → Bytes (filled n 0 
 unfolding filled
 filled-bytes n area b = append-bytes area (replicate (n - length area) 0) b (zeros-bytes (n - length area))
 
-module _ (l : Load) (ok : Succeeds l) where
+module _ (l : Load) where
   -- the modes that are counted
   abbrev modes : List Mode
   modes = take (l .given .«mode_count») (l .given .modes)
@@ -54,7 +54,7 @@ module _ (l : Load) (ok : Succeeds l) where
   zero-refusal =
       refusal-zero (refusal (l .sets) (length (l .sets)) (l .given .modes) (l .given .«mode_count») (length (l .area)) (l .given .«shill_handle»))
       (loadedCard (take (length (l .sets)) (l .sets)) modes (l .area) (l .given .«div_data») (l .given .«shill_key») (l .given .«shill_handle»))
-      (eqb (refusal (l .sets) (length (l .sets)) (l .given .modes) (l .given .«mode_count») (length (l .area)) (l .given .«shill_handle»)) 0) refl ok
+      (eqb (refusal (l .sets) (length (l .sets)) (l .given .modes) (l .given .«mode_count») (length (l .area)) (l .given .«shill_handle»)) 0) refl (l .success)
 
   shown : Accepted (l .sets) (length (l .sets)) (l .given .modes) (l .given .«mode_count») (length (l .area)) (l .given .«shill_handle»)
   shown = accepted (l .sets) (length (l .sets)) (l .given .modes) (l .given .«mode_count») (length (l .area)) (l .given .«shill_handle») zero-refusal
@@ -79,18 +79,18 @@ module _ (l : Load) (ok : Succeeds l) where
   sets-most = shown .sets-most
 
   -- a mode that is held was counted
-  pub mode-counted : length (l .given .modes) ≡ 16 → (i : ℕ) → modeAt (cardOf l) i .held ≡ true → i < l .given .«mode_count»
-  mode-counted t i e =
+  pub mode-counted : (i : ℕ) → modeAt (cardOf l) i .held ≡ true → i < l .given .«mode_count»
+  mode-counted i e =
       omega (
         arith,
         mode-given (l .sets) modes (l .area) (l .given .«div_data») (l .given .«shill_key») (l .given .«shill_handle») i (sym (ap (λ (c : Card). modeAt c i .held) card-is) ∙ e),
-        length-take-le (l .given .«mode_count») (l .given .modes) (omega (arith, shown .modes-most)),
+        length-take-le (l .given .«mode_count») (l .given .modes) (omega (arith, l .typed .modes, shown .modes-most)),
       )
 
   -- the mode of a place below the count, and its record
-  module _ (t : length (l .given .modes) ≡ 16) (i : ℕ) (h : i < l .given .«mode_count») where
+  module _ (i : ℕ) (h : i < l .given .«mode_count») where
     modes-long : length modes ≡ l .given .«mode_count»
-    modes-long = length-take-le (l .given .«mode_count») (l .given .modes) (omega (arith, shown .modes-most))
+    modes-long = length-take-le (l .given .«mode_count») (l .given .modes) (omega (arith, l .typed .modes, shown .modes-most))
 
     mode-at : getD modes i pastMode ≡ getD (l .given .modes) i pastMode
     mode-at = getD-take (l .given .«mode_count») (l .given .modes) i pastMode h
@@ -125,33 +125,36 @@ module _ (l : Load) (ok : Succeeds l) where
         let m : Mode = getD (l .given .modes) i pastMode in
         ap (λ (c : Card). part (c .area) (m .start) (m .len)) card-is ∙ part-filled 1024 (l .area) (m .start) (m .len) inside
 
-  module _ (t : Typed l) where
-    pub is-a-load : IsLoaded (cardOf l)
-    is-a-load =
-        rw card-is
-        (rw (take-length (l .sets)) at
-        (is-loaded (l .sets) (length (l .sets)) (l .given .modes) (l .given .«mode_count») (l .area) (l .given .«div_data») (l .given .«shill_key») (l .given .«shill_handle») zero-refusal
-        (le-refl (length (l .sets))) (t .modes) (t .div .long) (t .key .long) (λ i h. t .keys i h .long)))
+  pub is-a-load : IsLoaded (cardOf l)
+  is-a-load =
+      rw card-is
+      (rw (take-length (l .sets)) at
+      (is-loaded (l .sets) (length (l .sets)) (l .given .modes) (l .given .«mode_count») (l .area) (l .given .«div_data») (l .given .«shill_key») (l .given .«shill_handle») zero-refusal
+      (le-refl (length (l .sets))) (l .typed .modes) (l .typed .div .long) (l .typed .key .long) (λ i h. l .typed .keys i h .long)))
 
-    pub sound : Sound (cardOf l)
-    sound =
-        let k = is-a-load in
-        record {
-          sets = k .stocked .sets-long;
-          modes = k .stocked .modes-long;
-          div = k .stocked .div-long;
-          rnd1 = ap (λ (s : Session). length (s .rnd1)) (k .no-session);
-          size = k .stocked .size-most;
-        }
+  pub sound : Sound (cardOf l)
+  sound =
+      let k = is-a-load in
+      record {
+        sets = k .stocked .sets-long;
+        modes = k .stocked .modes-long;
+        div = k .stocked .div-long;
+        rnd1 = ap (λ (s : Session). length (s .rnd1)) (k .no-session);
+        size = k .stocked .size-most;
+      }
 
-    pub key-given : cardOf l .«shill_key» ≡ l .given .«shill_key»
-    unfolding loadedCard
-    key-given = ap (λ (c : Card). c .«shill_key») card-is
+  pub handle-given : cardOf l .«shill_handle» ≡ l .given .«shill_handle»
+  unfolding loadedCard
+  handle-given = ap (λ (c : Card). c .«shill_handle») card-is
 
-    pub div-given : cardOf l .«div_data» ≡ l .given .«div_data»
-    unfolding loadedCard
-    div-given = ap (λ (c : Card). c .«div_data») card-is
+  pub key-given : cardOf l .«shill_key» ≡ l .given .«shill_key»
+  unfolding loadedCard
+  key-given = ap (λ (c : Card). c .«shill_key») card-is
 
-    pub area-bytes : Bytes (cardOf l .area)
-    unfolding loadedCard
-    area-bytes i = rw card-is (filled-bytes 1024 (l .area) (t .area-bytes) i)
+  pub div-given : cardOf l .«div_data» ≡ l .given .«div_data»
+  unfolding loadedCard
+  div-given = ap (λ (c : Card). c .«div_data») card-is
+
+  pub area-bytes : Bytes (cardOf l .area)
+  unfolding loadedCard
+  area-bytes i = rw card-is (filled-bytes 1024 (l .area) (l .typed .area-bytes) i)

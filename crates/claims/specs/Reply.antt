@@ -25,7 +25,7 @@ use Rattle.final_command.specs.Final.{textOf, keysHash, opMode, modeOf, accepts
 use Rattle.card.specs.Command.{verdictOn, replyTo, answerBytes}
 use Rattle.card.specs.Lists.{Call, cardAfter, bytesOf, isDeclined, isInitial, accepted}
 use Rattle.session_final.specs.Reply.{namedRecord, AcceptedReply, accepted-reply, refused-reply}
-use Rattle.claims.specs.Load.{Load, cardOf, Succeeds, Typed}
+use Rattle.claims.specs.Load.{Load, cardOf}
 use Rattle.claims.specs.Loaded.{mode-counted, mode-slot, record-given, key-given, div-given}
 use Rattle.claims.specs.Kept.{Kept, kept}
 
@@ -55,9 +55,9 @@ pub record FinalAnswers (l : Load) (xs : List Call) (x : Call) : Type 0 where
   pub if-accepted : accepted (left l xs) x ≡ true → AcceptedFinal l xs x
   pub if-refused : accepted (left l xs) x ≡ false → RefusedFinal l xs x
 
-module _ (l : Load) (t : Typed l) (ok : Succeeds l) (xs : List Call) (x : Call) (goes : isDeclined x ≡ false) (final : isInitial x ≡ false) where
+module _ (l : Load) (xs : List Call) (x : Call) (goes : isDeclined x ≡ false) (final : isInitial x ≡ false) where
   kp : Kept l (left l xs)
-  kp = kept l t ok xs
+  kp = kept l xs
 
   d : List ℕ
   d = dataOf (x .command)
@@ -95,10 +95,10 @@ module _ (l : Load) (t : Typed l) (ok : Succeeds l) (xs : List Call) (x : Call) 
 
     counted : at < l .given .«mode_count»
     unfolding at
-    counted = mode-counted l ok (t .modes) at (sym (ap (λ (s : ModeSlot). s .held) slot-is) ∙ reply .is-held)
+    counted = mode-counted l at (sym (ap (λ (s : ModeSlot). s .held) slot-is) ∙ reply .is-held)
 
     mode-is : modeAt (left l xs) at ≡ modeSlot (getD (l .given .modes) at pastMode)
-    mode-is = slot-is ∙ mode-slot l ok (t .modes) at counted
+    mode-is = slot-is ∙ mode-slot l at counted
 
     text-is :
         namedRecord (left l xs) d ++ left l xs .«div_data»
@@ -106,8 +106,8 @@ module _ (l : Load) (t : Typed l) (ok : Succeeds l) (xs : List Call) (x : Call) 
     unfolding at
     text-is =
         ap₂ (λ (a b : List ℕ). a ++ b)
-        (ap₂ (λ (a : List ℕ) (s : ModeSlot). part a (s .start) (s .len)) (ap (λ (c : Card). c .area) (kp .same)) mode-is ∙ record-given l ok (t .modes) at counted)
-        (ap (λ (c : Card). c .«div_data») (kp .same) ∙ div-given l ok t)
+        (ap₂ (λ (a : List ℕ) (s : ModeSlot). part a (s .start) (s .len)) (ap (λ (c : Card). c .area) (kp .same)) mode-is ∙ record-given l at counted)
+        (ap (λ (c : Card). c .«div_data») (kp .same) ∙ div-given l)
 
     answered-so : AcceptedFinal l xs x
     unfolding at d
@@ -127,7 +127,7 @@ module _ (l : Load) (t : Typed l) (ok : Succeeds l) (xs : List Call) (x : Call) 
   refused-so e =
       bytes-are
       ∙ refused-reply (left l xs) d (x .fresh) (kp .stocked) e fresh-long
-      ∙ ap₂ (λ (k : List ℕ) (n : ℕ). encrypted (aes 4 k) zeros n (part (x .fresh) 0 (16 * n))) (ap (λ (c : Card). c .«shill_key») (kp .same) ∙ key-given l ok t) size-is
+      ∙ ap₂ (λ (k : List ℕ) (n : ℕ). encrypted (aes 4 k) zeros n (part (x .fresh) 0 (16 * n))) (ap (λ (c : Card). c .«shill_key») (kp .same) ∙ key-given l) size-is
 
   pub final-answers : FinalAnswers l xs x
   final-answers = record { if-accepted = λ a. answered-so (sym accepts-are ∙ a); if-refused = λ a. refused-so (sym accepts-are ∙ a) }

@@ -39,14 +39,14 @@ use Rattle.session_initial.specs.Held.{held, firstHeld, Holds}
 use Rattle.session_initial.specs.Answered.{list-slot}
 use Rattle.session_final.specs.SealReply.{sealedSlot}
 use Rattle.session.specs.Promise as promise
-use Rattle.claims.specs.Load.{Load, cardOf, Succeeds, Typed}
+use Rattle.claims.specs.Load.{Load, cardOf}
 use Rattle.claims.specs.Loaded.{set-slot, slot-given, sets-most, mode-slot, mode-below, record-given, div-given, area-bytes}
 use Rattle.claims.specs.Kept.{Kept, kept}
 use Rattle.claims.specs.Found.{listed-held, place-is, slot-unique, mode-found, mode-is, list-number, list-sent, seal-hash, seal-sent}
 
 -- a session: what the two ends and their platforms give
 pub record Exchange : Type 0 where
-  -- the load, and the calls that the card got since, whatever they were
+  -- the successful load, and the calls that the card got since, whatever they were
   pub load : Load
   pub before : List Call
   -- the reader's KeySetIDs, the first `count`, and the buffer that List gets
@@ -116,9 +116,6 @@ module _ (e : Exchange) where
 
   -- the conditions of the promise, in document 01's words
   pub record Conditions : Type 0 where
-    -- "the card that a successful load returned"
-    pub typed : Typed (e .load)
-    pub succeeds : Succeeds (e .load)
     -- "the first listed set that the card holds": the entry at `place` names the load's set at `set`, and no entry before it names a set of the load
     pub place : ℕ
     pub set : ℕ
@@ -159,7 +156,7 @@ module _ (e : Exchange) where
   -- the proof: what the promise on a stocked card asks, from these conditions
   module _ (k : Conditions) where
     kp : Kept (e .load) card
-    kp = kept (e .load) (k .typed) (k .succeeds) (e .before)
+    kp = kept (e .load) (e .before)
 
     g : Stocked card
     g = kp .stocked
@@ -185,7 +182,7 @@ module _ (e : Exchange) where
 
     -- the first listed set that the card holds
     slot-is : setAt card (k .set) ≡ setSlot (getD (e .load .sets) (k .set) pastSet)
-    slot-is = ap (λ (x : Card). setAt x (k .set)) (kp .same) ∙ set-slot (e .load) (k .succeeds) (k .set) (k .set-loaded)
+    slot-is = ap (λ (x : Card). setAt x (k .set)) (kp .same) ∙ set-slot (e .load) (k .set) (k .set-loaded)
 
     slot-id : setAt card (k .set) .id .0 ≡ getD ids (k .place) 0
     slot-id = ap (λ (s : KeySetSlot). s .id .0) slot-is ∙ ap (λ (x : KeySetId). x .0) (k .same-id) ∙ sym (id-at (k .place) (k .place-listed))
@@ -194,7 +191,7 @@ module _ (e : Exchange) where
     slot-held = ap (λ (s : KeySetSlot). s .held) slot-is
 
     below : k .set < 8
-    below = omega (arith, k .set-loaded, sets-most (e .load) (k .succeeds))
+    below = omega (arith, k .set-loaded, sets-most (e .load))
 
     same-number : (x y : KeySetId) → x .0 ≡ y .0 → x ≡ y
     same-number x y q = ap (λ (m : ℕ). record { 0 = m }) q
@@ -202,10 +199,10 @@ module _ (e : Exchange) where
     none-held : (i m : ℕ) → i < k .place → setAt card m .held ≡ true → setAt card m .id .0 ≡ getD ids i 0 → ⊥
     none-held i m h a b =
         let w : setAt card m ≡ setAt (cardOf (e .load)) m = ap (λ (x : Card). setAt x m) (kp .same) in
-        let j : m < length (e .load .sets) = slot-given (e .load) (k .succeeds) m (sym (ap (λ (s : KeySetSlot). s .held) w) ∙ a) in
+        let j : m < length (e .load .sets) = slot-given (e .load) m (sym (ap (λ (s : KeySetSlot). s .held) w) ∙ a) in
         k .none-earlier i m h j
         (same-number (getD (e .load .sets) m pastSet .id) (getD (e .ids) i noId)
-        (sym (ap (λ (s : KeySetSlot). s .id .0) (w ∙ set-slot (e .load) (k .succeeds) m j)) ∙ b ∙ id-at i (omega (arith, k .place-listed))))
+        (sym (ap (λ (s : KeySetSlot). s .id .0) (w ∙ set-slot (e .load) m j)) ∙ b ∙ id-at i (omega (arith, k .place-listed))))
 
     some-held : some (held card) ids ≡ true
     some-held = listed-held card g ids (k .place) (k .set) (omega (arith, ids-are, k .place-listed)) below slot-held slot-id none-held
@@ -224,18 +221,18 @@ module _ (e : Exchange) where
 
     -- the mode
     mode-slot-is : modeAt card (k .at) ≡ modeSlot (getD (e .load .given .modes) (k .at) pastMode)
-    mode-slot-is = ap (λ (x : Card). modeAt x (k .at)) (kp .same) ∙ mode-slot (e .load) (k .succeeds) (k .typed .modes) (k .at) (k .mode-loaded)
+    mode-slot-is = ap (λ (x : Card). modeAt x (k .at)) (kp .same) ∙ mode-slot (e .load) (k .at) (k .mode-loaded)
 
     mode-id : modeAt card (k .at) .id .0 ≡ e .mode .0
     mode-id = ap (λ (s : ModeSlot). s .id .0) mode-slot-is ∙ ap (λ (x : OpModeId). x .0) (k .same-mode)
 
     mode-held : firstMode 0 (e .mode .0) (card .modes) < 16
-    mode-held = mode-found card g (e .mode .0) (k .at) (mode-below (e .load) (k .succeeds) (k .typed .modes) (k .at) (k .mode-loaded)) (ap (λ (s : ModeSlot). s .held) mode-slot-is) mode-id
+    mode-held = mode-found card g (e .mode .0) (k .at) (mode-below (e .load) (k .at) (k .mode-loaded)) (ap (λ (s : ModeSlot). s .held) mode-slot-is) mode-id
 
     sealed-slot : sealedSlot card (e .mode .0) ≡ modeSlot (getD (e .load .given .modes) (k .at) pastMode)
     sealed-slot =
         ap (modeAt card)
-        (mode-is card g (e .mode .0) (k .at) (mode-below (e .load) (k .succeeds) (k .typed .modes) (k .at) (k .mode-loaded)) (ap (λ (s : ModeSlot). s .held) mode-slot-is) mode-id)
+        (mode-is card g (e .mode .0) (k .at) (mode-below (e .load) (k .at) (k .mode-loaded)) (ap (λ (s : ModeSlot). s .held) mode-slot-is) mode-id)
         ∙ mode-slot-is
 
     -- the commands are List's and Seal's
@@ -285,9 +282,9 @@ module _ (e : Exchange) where
           ids-long = k .ids-long;
           ids-small = λ i. id-small i (ltb i (e .count)) refl;
           mode-small = k .mode-small;
-          div-bytes = subst (λ (d : List ℕ). Bytes d) (sym (ap (λ (x : Card). x .«div_data») (kp .same) ∙ div-given (e .load) (k .succeeds) (k .typed))) (k .typed .div .byte);
-          area-bytes = subst (λ (d : List ℕ). Bytes d) (sym (ap (λ (x : Card). x .area) (kp .same))) (area-bytes (e .load) (k .succeeds) (k .typed));
-          key-bytes = subst (λ (d : List ℕ). Bytes d) (k .same-key) (k .typed .keys (k .set) (k .set-loaded) .byte);
+          div-bytes = subst (λ (d : List ℕ). Bytes d) (sym (ap (λ (x : Card). x .«div_data») (kp .same) ∙ div-given (e .load))) (e .load .typed .div .byte);
+          area-bytes = subst (λ (d : List ℕ). Bytes d) (sym (ap (λ (x : Card). x .area) (kp .same))) (area-bytes (e .load));
+          key-bytes = subst (λ (d : List ℕ). Bytes d) (k .same-key) (e .load .typed .keys (k .set) (k .set-loaded) .byte);
           rnd2-block = k .rnd2-block;
           payload-bytes = k .payload-bytes;
         }
@@ -311,5 +308,5 @@ module _ (e : Exchange) where
               ∙ promise.session-record card (e .ids) (e .count) (e .fresh₁) (e .room₁) (e .blocks) (e .faKey) (e .rnd2) (e .payload) (e .mode .0) (e .fresh₂) (e .room₂) (e .work) conditions
               ∙ ap (λ (s : ModeSlot). part (card .area) (s .start) (s .len)) sealed-slot
               ∙ ap (λ (a : List ℕ). part a (m .start) (m .len)) (ap (λ (x : Card). x .area) (kp .same))
-              ∙ record-given (e .load) (k .succeeds) (k .typed .modes) (k .at) (k .mode-loaded);
+              ∙ record-given (e .load) (k .at) (k .mode-loaded);
         }

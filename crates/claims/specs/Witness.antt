@@ -35,7 +35,8 @@ use Rattle.reader_accept.specs.Accept.{knownLength, decipheredText, authenticat
 use Rattle.reader_accept.specs.Laws.{known}
 use Rattle.plaid.specs.Interface.{loadOf}
 use Rattle.plaid.specs.declared.Given.{Given}
-use Rattle.claims.specs.Load.{Load, cardOf, Succeeds, Typed}
+use Rattle.claims.specs.Load.{Load, cardOf}
+use Rattle.claims.specs.Loads.{block-of, set, given, area, load-of, two-keys}
 use Rattle.claims.specs.Demand3.{Demand3, demand-3, shapes}
 use Rattle.claims.specs.Session.{Exchange, Conditions, Promised, answer₁, returned, session-promise}
 
@@ -72,57 +73,14 @@ open-counted ids n blocks a b l q = by (eqb (winner ids n blocks) n) refl q
     by true e z = let y : _≡_ {A = ℕ} 15 14 = simp (ne-eqb n 0 (λ m. omega arith), le-ltb 16 n b, eq-eqb (length blocks) (256 * n) l, e) at z in omega arith
     by false e z = let y : _≡_ {A = ℕ} 0 14 = simp (ne-eqb n 0 (λ m. omega arith), le-ltb 16 n b, eq-eqb (length blocks) (256 * n) l, e) at z in omega arith
 
-same-bytes : (n x : ℕ) → x < 256 → Bytes (replicate n x)
-same-bytes zero x h i = omega arith
-same-bytes (suc n) x h zero = h
-same-bytes (suc n) x h (suc i) = same-bytes n x h i
+-- the loads: sets 1 and 2, or 3 and 4, and mode 7 with a record of 16 bytes behind 4 others
+unfoldable pub one-two : Load
+unfolding set given area loadOf loaded refusal modesRefusal
+one-two = load-of (set 1 ∷ set 2 ∷ []) 4 16 (two-keys 1 2 (omega arith) (omega arith)) refl
 
-block-of : (x : ℕ) → x < 256 → Block (replicate 16 x)
-block-of x h = record { long = refl; byte = same-bytes 16 x h }
-
--- the load: sets 1 and 2, mode 7 with a record of 16 bytes behind 4 others
-unfoldable pub set : ℕ → KeySet
-set n = record { id = record { 0 = n }; handle = n; «fa_key» = replicate 16 n }
-
-unfoldable pub loads : ℕ → ℕ → Load
-loads a b =
-    record {
-      sets = set a ∷ set b ∷ [];
-      given =
-          record {
-            modes = record { id = record { 0 = 7 }; start = 4; len = 16 } ∷ replicate 15 pastMode;
-            «mode_count» = 1;
-            «div_data» = replicate 16 0xD1;
-            «shill_key» = replicate 16 0x55;
-            «shill_handle» = 9;
-          };
-      area = replicate 4 0xAA ++ replicate 16 0xBB;
-    }
-
-keys-blocks : (a b : ℕ) → a < 256 → b < 256 → (i : ℕ) → i < 2 → Block (getD (set a ∷ set b ∷ []) i pastSet .«fa_key»)
-unfolding set
-keys-blocks a b ha hb zero h = block-of a ha
-keys-blocks a b ha hb (suc zero) h = block-of b hb
-keys-blocks a b ha hb (suc (suc i)) h = absurd (omega arith)
-
-area-bytes : Bytes (replicate 4 0xAA ++ replicate 16 0xBB)
-area-bytes i = by i
-  where
-    by : (i : ℕ) → getD (replicate 4 0xAA ++ replicate 16 0xBB) i 0 < 256
-    by zero = omega arith
-    by (suc zero) = omega arith
-    by (suc (suc zero)) = omega arith
-    by (suc (suc (suc zero))) = omega arith
-    by (suc (suc (suc (suc i)))) = same-bytes 16 0xBB (omega arith) i
-
-load-typed : (a b : ℕ) → a < 256 → b < 256 → Typed (loads a b)
-unfolding loads
-load-typed a b ha hb =
-    record { modes = refl; div = block-of 0xD1 (omega arith); key = block-of 0x55 (omega arith); keys = keys-blocks a b ha hb; area-bytes = area-bytes }
-
-load-done : Succeeds (loads 1 2)
-unfolding loads set loadOf loaded refusal modesRefusal
-load-done = refl
+unfoldable pub three-four : Load
+unfolding set given area loadOf loaded refusal modesRefusal
+three-four = load-of (set 3 ∷ set 4 ∷ []) 4 16 (two-keys 3 4 (omega arith) (omega arith)) refl
 
 unfoldable pub fresh : List ℕ
 fresh = replicate 253 1
@@ -143,7 +101,7 @@ broken-off = record { command = 0 ∷ 0x87 ∷ 0 ∷ 0 ∷ 6 ∷ 0x30 ∷ 4 ∷ 
 unfoldable pub exchange : List ℕ → Exchange
 exchange blocks =
     record {
-      load = loads 1 2;
+      load = one-two;
       before = broken-off ∷ [];
       ids = record { 0 = 8 } ∷ record { 0 = 2 } ∷ replicate 14 noId;
       count = 2;
@@ -165,7 +123,7 @@ unfoldable pub first : List ℕ
 first = answer₁ (exchange [])
 
 first-long : length first ≡ 256
-unfolding first exchange loads set fresh broken-off loadOf loaded refusal modesRefusal loadedCard filled listed listNumber listOutput listCommand encoded shortEntries part over cardAfter outcome answerBytes replyTo verdict frameOf statusOf whole dataOf padBytes initialReply slotOf firstPlace lengthAt entryAt head walked ber.listed str1 blockOf
+unfolding first exchange one-two load-of given area set fresh broken-off loadOf loaded refusal modesRefusal loadedCard filled listed listNumber listOutput listCommand encoded shortEntries part over cardAfter outcome answerBytes replyTo verdict frameOf statusOf whole dataOf padBytes initialReply slotOf firstPlace lengthAt entryAt head walked ber.listed str1 blockOf
 first-long = refl
 
 unfoldable pub session : Exchange
@@ -197,8 +155,8 @@ decrypted : blockAt (session .blocks) 1 ≡ answer₁ session
 unfolding session exchange part first
 decrypted = ap (take 256) (drop-at (replicate 256 0) first 256 refl) ∙ take-all 256 first (omega (arith, first-long))
 
-none-earlier : (i j : ℕ) → i < 1 → j < 2 → getD (loads 1 2 .sets) j pastSet .id ≡ getD (session .ids) i noId → ⊥
-unfolding session exchange loads set
+none-earlier : (i j : ℕ) → i < 1 → j < 2 → getD (one-two .sets) j pastSet .id ≡ getD (session .ids) i noId → ⊥
+unfolding session exchange one-two load-of given area set
 none-earlier zero zero h l q = let z : _≡_ {A = ℕ} 1 8 = ap (λ (x : KeySetId). x .0) q in omega arith
 none-earlier zero (suc zero) h l q = let z : _≡_ {A = ℕ} 2 8 = ap (λ (x : KeySetId). x .0) q in omega arith
 none-earlier zero (suc (suc j)) h l q = omega arith
@@ -210,11 +168,9 @@ blocks-long = length-append (replicate 256 0) first ∙ omega (arith, first-long
 
 -- the conditions of the session promise are met
 pub conditions : Conditions session
-unfolding session exchange loads set listed listNumber listOutput listCommand encoded shortEntries sealedOf sealNumber
+unfolding session exchange one-two load-of given area set listed listNumber listOutput listCommand encoded shortEntries sealedOf sealNumber
 conditions =
     record {
-      typed = load-typed 1 2 (omega arith) (omega arith);
-      succeeds = load-done;
       place = 1;
       set = 1;
       place-listed = omega arith;
@@ -242,23 +198,17 @@ conditions =
 
 -- so the reader gets the sixteen bytes that the load was given for mode 7
 pub record-comes : returned session ≡ replicate 16 0xBB
-unfolding session exchange loads part conditions
+unfolding session exchange one-two load-of given area part conditions
 record-comes = session-promise session conditions .record-returned
 
 -- and those of demand 3, for two cards that hold other sets and for two lists of other data
-load-done-too : Succeeds (loads 3 4)
-unfolding loads set loadOf loaded refusal modesRefusal
-load-done-too = refl
-
-same-shill : Agree (cardOf (loads 1 2)) (cardOf (loads 3 4))
-unfolding loads set loadOf loaded refusal modesRefusal loadedCard
+same-shill : Agree (cardOf one-two) (cardOf three-four)
+unfolding one-two three-four load-of given area set loadOf loaded refusal modesRefusal loadedCard
 same-shill = record { key = refl; handle = refl; size = refl }
 
 unfoldable pub other-list : Call
 other-list = record { command = 0 ∷ 0x87 ∷ 0 ∷ 0 ∷ 6 ∷ 0x30 ∷ 4 ∷ 4 ∷ 2 ∷ 0 ∷ 7 ∷ 0 ∷ []; fresh = fresh; room = 256 }
 
-pub both-alike : shapes (loads 1 2) (broken-off ∷ []) ≡ shapes (loads 3 4) (other-list ∷ [])
+pub both-alike : shapes one-two (broken-off ∷ []) ≡ shapes three-four (other-list ∷ [])
 unfolding frameOf part broken-off other-list
-both-alike =
-    demand-3 (loads 1 2) (load-typed 1 2 (omega arith) (omega arith)) load-done .alike (loads 3 4) (load-typed 3 4 (omega arith) (omega arith)) load-done-too same-shill
-    (more (record { frames = refl; lengths = refl; fresh = refl; rooms = refl }) none)
+both-alike = demand-3 one-two .alike three-four same-shill (more (record { frames = refl; lengths = refl; fresh = refl; rooms = refl }) none)

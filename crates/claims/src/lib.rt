@@ -1,1 +1,1 @@
-//! The two claims, demand 3 and the session promise, from the load on, with what they rest on. No code: definitions and theorems in `specs/`.
+//! The claims, from the load on: demand 3, the session promise, and the edges of document 01. No code: definitions and theorems in `specs/`.

@@ -2,4 +2,3 @@ pub mod Parts
 pub mod Kept
 pub mod Promise
 pub mod Opens
-pub mod Edges

@@ -1,1 +1,1 @@
-//! The session promise of demand 2, whole, and the edges of document 01. No code: definitions and theorems in `specs/`.
+//! The session promise of demand 2, whole. No code: definitions and theorems in `specs/`.

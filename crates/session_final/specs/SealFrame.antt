@@ -36,14 +36,14 @@ module _ (lc : ℕ) (d : List ℕ) (e : length d ≡ lc) where
       whole-is (length (finalCommand lc d)) (frameOf (finalCommand lc d)) (omega arith) (omega (arith, length-command lc d))
       (frame-last (finalCommand lc d) (omega (arith, length-command lc d)) ∙ framed-last)
 
-  framed-status : 0 < lc → statusOf (length (finalCommand lc d)) (frameOf (finalCommand lc d)) ≡ 0x9000
+  pub framed-status : 0 < lc → statusOf (length (finalCommand lc d)) (frameOf (finalCommand lc d)) ≡ 0x9000
   unfolding finalCommand
   framed-status h =
       let c : List ℕ = finalCommand lc d in
       status-by (length c) (frameOf c) (omega (arith, length-command lc d)) (frame-byte c 0 (omega arith)) framed-ins (frame-byte c 2 (omega arith))
       (frame-byte c 3 (omega arith)) (framed-whole h)
 
-  framed-data : dataOf (finalCommand lc d) ≡ d
+  pub framed-data : dataOf (finalCommand lc d) ≡ d
   unfolding dataOf part finalCommand
   framed-data = take-at d (0 ∷ []) (length (finalCommand lc d) - 6) (omega (arith, length-command lc d))
 

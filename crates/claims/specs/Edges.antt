@@ -1,0 +1,152 @@
+-- The edges of document 01 that are marked P, as one list of statements. Each speaks of what the operations hand back: a load, a command call, Seal,
+-- unpadding. `EdgesHold` has the one theorem that all of them hold.
+use mathlib.Core.Path.{_≡_}
+use mathlib.Core.Bool.{true, false}
+use mathlib.Core.List.{List, [], _∷_, _++_}
+use Prim.Native.Nat.{ℕ, _+_, _/_, _%_, _<_, _≤_}
+use lib.ListN.{length, getD, drop, replicate}
+use Rattle.octets.specs.Lists.{part}
+use Rattle.aes.specs.Aes.{aes}
+use Rattle.cbc.specs.Cbc.{zeros, encrypted}
+use Rattle.padding.specs.Method2.{rightly, unpadded}
+use Rattle.padding.specs.declared.Unpadded.the-variants.{Text, Malformed}
+use Rattle.plaid_types.specs.Cards.{noSession, withSession}
+use Rattle.plaid_types.specs.declared.Session.{Session}
+use Rattle.plaid_types.specs.declared.Card.{Card}
+use Rattle.load.specs.Laws.{pastSet, pastMode}
+use Rattle.card.specs.Lists.{Call, outcomeOf, bytesOf, accepted}
+use Rattle.reader_seal.specs.Seal.{sealedOf, sealOutput}
+use Rattle.reader_seal.specs.declared.Sealed.{Sealed}
+use Rattle.claims.specs.Load.{Load, cardOf}
+
+-- an edge about the successful loads with the property p: there is one, and q holds of each
+abbrev pub Of : (Load → Type 0) → (Load → Type 0) → Type 0
+Of p q = ((l : Load) × p l) × ((l : Load) → p l → q l)
+
+-- the same of all successful loads
+abbrev pub OfAll : (Load → Type 0) → Type 0
+OfAll q = Load × ((l : Load) → q l)
+
+-- its key set number i, counted from 0, has KeySetID k
+pub record Gave (l : Load) (i k : ℕ) : Type 0 where
+  pub within : i < length (l .sets)
+  pub id : getD (l .sets) i pastSet .id .0 ≡ k
+
+-- "Frame: CLA 00, INS 87 (initial) or 86 (final), P1 P2 0000, Lc .., Lc data bytes, Le 00"
+abbrev pub framed : ℕ → List ℕ → List ℕ
+framed ins d = 0 ∷ ins ∷ 0 ∷ 0 ∷ length d ∷ (d ++ (0 ∷ []))
+
+-- no "8 fresh bytes not 253; 9 a zero pad byte; 10 output below 256"; the pad bytes are those behind the first 50
+pub record Lent (fresh : List ℕ) (room : ℕ) : Type 0 where
+  pub fresh-long : length fresh ≡ 253
+  pub pads-nonzero : (i : ℕ) → 50 ≤ i → i < 253 → getD fresh i 0 ≡ 0 → ⊥
+  pub room-enough : 256 ≤ room
+
+-- what is said of every call with the command cmd and such fresh bytes and output, on the load's card with any session
+abbrev pub EachCall : Load → List ℕ → (Card → Call → Type 0) → Type 0
+EachCall l cmd q =
+    (s : Session) (fresh : List ℕ) (room : ℕ) → length (s .rnd1) ≡ 16 → Lent fresh room →
+    q (withSession (cardOf l) s) (record { command = cmd; fresh = fresh; room = room })
+
+-- "set k, n comparisons", of a call x on the card c: the handle is that of the load's set k; the session is open with KeySetID k and the first 16 fresh
+-- bytes as RND1, and the card is otherwise the load's; the block is 00 02, the pad bytes, 00, and STR1 = KeySetID, DivData, RND1, RND1
+pub record Answered (l : Load) (k n : ℕ) (c : Card) (x : Call) : Type 0 where
+  pub number : outcomeOf c x .answer .number ≡ 0
+  pub status : outcomeOf c x .answer .status ≡ 0x9000
+  pub comparisons : outcomeOf c x .answer .comparisons ≡ n
+  pub place : ℕ
+  pub gave : Gave l place k
+  pub handle : outcomeOf c x .answer .handle ≡ getD (l .sets) place pastSet .handle
+  pub card : outcomeOf c x .card ≡ withSession (cardOf l) (record { opened = true; id = record { 0 = k }; rnd1 = part (x .fresh) 0 16 })
+  pub block :
+      bytesOf c x ≡
+      0 ∷ 2 ∷ (drop 50 (x .fresh) ++ (0 ∷ k / 256 ∷ k % 256 ∷ (l .given .«div_data» ++ (part (x .fresh) 0 16 ++ part (x .fresh) 0 16))))
+
+-- "refused, n": the handle is the shill handle, there is no session, and F, the first 50 fresh bytes, stands for STR1
+pub record Refused (l : Load) (n : ℕ) (c : Card) (x : Call) : Type 0 where
+  pub number : outcomeOf c x .answer .number ≡ 0
+  pub status : outcomeOf c x .answer .status ≡ 0x9000
+  pub comparisons : outcomeOf c x .answer .comparisons ≡ n
+  pub handle : outcomeOf c x .answer .handle ≡ l .given .«shill_handle»
+  pub card : outcomeOf c x .card ≡ withSession (cardOf l) noSession
+  pub block : bytesOf c x ≡ 0 ∷ 2 ∷ (drop 50 (x .fresh) ++ (0 ∷ part (x .fresh) 0 50))
+
+-- "final, .. B 3: refused, n .., 4 encipherments": the call is not accepted, "the first 16B fresh bytes go by CBC under the shill key, unpadded", and "the
+-- session closes either way"
+pub record FinalRefused (l : Load) (n : ℕ) (c : Card) (x : Call) : Type 0 where
+  pub number : outcomeOf c x .answer .number ≡ 0
+  pub status : outcomeOf c x .answer .status ≡ 0x9000
+  pub decipherments : outcomeOf c x .answer .decipherments ≡ n
+  pub encipherments : outcomeOf c x .answer .encipherments ≡ 4
+  pub size : outcomeOf c x .answer .length ≡ 48
+  pub handle : outcomeOf c x .answer .handle ≡ 0
+  pub card : outcomeOf c x .card ≡ withSession (cardOf l) noSession
+  pub refused : accepted c x ≡ false
+  pub reply : bytesOf c x ≡ encrypted (aes 4 (l .given .«shill_key»)) zeros 3 (part (x .fresh) 0 48)
+
+-- the same of every final command with lc data bytes, whatever they are
+abbrev pub Final : ℕ → ℕ → Type 0
+Final lc n = Of (λ l. cardOf l .«reply_size» ≡ 3) (λ l. (d : List ℕ) → length d ≡ lc → EachCall l (framed 0x86 d) (FinalRefused l n))
+
+-- its mode number i has a record of n bytes
+pub record Records (l : Load) (i n : ℕ) : Type 0 where
+  pub within : i < l .given .«mode_count»
+  pub size : getD (l .given .modes) i pastMode .len ≡ n
+
+-- "record of n: B b"
+abbrev pub Size : ℕ → ℕ → Type 0
+Size n b = Of (λ l. (i : ℕ) × Records l i n) (λ l. cardOf l .«reply_size» ≡ b)
+
+-- "payload p: Lc lc", of what Seal hands back and writes, for every payload of p bytes and every output with room for the command
+pub record SealedWith (lc : ℕ) (r : Sealed) (out : List ℕ) : Type 0 where
+  pub number : r .number ≡ 0
+  pub total : r .length ≡ lc + 6
+  pub lc-byte : getD out 4 0 ≡ lc
+
+abbrev pub Seals : ℕ → ℕ → Type 0
+Seals p lc =
+    (fa div rnd1 rnd2 : List ℕ) (mode : ℕ) (payload out : List ℕ) → length payload ≡ p → lc + 6 ≤ length out →
+    SealedWith lc (sealedOf fa div rnd1 rnd2 mode payload (length out)) (sealOutput fa div rnd1 rnd2 mode payload out)
+
+-- a last block behind any whole blocks s: "good", and then the text is s, or "bad"
+abbrev pub Good : List ℕ → Type 0
+Good last = (s : List ℕ) → length s % 16 ≡ 0 → (rightly (s ++ last) ≡ true) × (unpadded (s ++ last) ≡ Text (length s))
+
+abbrev pub Bad : List ℕ → Type 0
+Bad last = (s : List ℕ) → length s % 16 ≡ 0 → (rightly (s ++ last) ≡ false) × (unpadded (s ++ last) ≡ Malformed)
+
+unfoldable pub edges : List (Type 0)
+edges =
+    -- "30 04 04 02 00 01, set 1 held: set 1, 8 comparisons"
+    Of (λ l. (i : ℕ) × Gave l i 1) (λ l. EachCall l (framed 0x87 (0x30 ∷ 4 ∷ 4 ∷ 2 ∷ 0 ∷ 1 ∷ [])) (Answered l 1 8)) ∷
+    -- "30 08 04 02 00 05 04 02 00 02, slots 2 then 5: set 5, 16"
+    Of (λ l. Gave l 0 2 × Gave l 1 5) (λ l. EachCall l (framed 0x87 (0x30 ∷ 8 ∷ 4 ∷ 2 ∷ 0 ∷ 5 ∷ 4 ∷ 2 ∷ 0 ∷ 2 ∷ [])) (Answered l 5 16)) ∷
+    -- "30 00: refused, 0"
+    OfAll (λ l. EachCall l (framed 0x87 (0x30 ∷ 0 ∷ [])) (Refused l 0)) ∷
+    -- "30 04 04 02 00 01 00: refused, 8"
+    OfAll (λ l. EachCall l (framed 0x87 (0x30 ∷ 4 ∷ 4 ∷ 2 ∷ 0 ∷ 1 ∷ 0 ∷ [])) (Refused l 8)) ∷
+    -- "30 03 04 01 01: refused, 8"
+    OfAll (λ l. EachCall l (framed 0x87 (0x30 ∷ 3 ∷ 4 ∷ 1 ∷ 1 ∷ [])) (Refused l 8)) ∷
+    -- "30 81 04 04 02 00 01: set 1, 8"
+    Of (λ l. (i : ℕ) × Gave l i 1) (λ l. EachCall l (framed 0x87 (0x30 ∷ 0x81 ∷ 4 ∷ 4 ∷ 2 ∷ 0 ∷ 1 ∷ [])) (Answered l 1 8)) ∷
+    -- "record of 15: B 2; of 16: B 3; of 64: B 6"
+    Size 15 2 ∷
+    Size 16 3 ∷
+    Size 64 6 ∷
+    -- "payload 13: Lc 48; 14: 64; 205: 240"
+    Seals 13 48 ∷
+    Seals 14 64 ∷
+    Seals 205 240 ∷
+    -- "last block 80 and fifteen 00: good; sixteen 00: bad"
+    Good (0x80 ∷ replicate 15 0) ∷
+    Bad (replicate 16 0) ∷
+    -- "final, Lc 255, B 3: refused, n 15, 4 encipherments; Lc 1: n 0"
+    Final 255 15 ∷
+    Final 1 0 ∷
+    []
+
+-- every statement of a list holds
+infixr 20 _and_
+pub data All : List (Type 0) → Type 1 where
+  end : All []
+  _and_ : {p : Type 0} {ps : List (Type 0)} → p → All ps → All (p ∷ ps)

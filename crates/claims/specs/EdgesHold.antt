@@ -1,0 +1,376 @@
+-- Every edge of document 01 that is marked P holds. Assumes nothing.
+use mathlib.Core.Path.{_≡_, refl, sym, ap, _∙_}
+use mathlib.Core.Bool.{Bool, true, false, cond, _||_, or-true}
+use mathlib.Core.List.{List, [], _∷_, _++_, append-assoc}
+use Prim.Native.Nat.{ℕ, zero, suc, _+_, _-_, _*_, _/_, _%_, _<_, _≤_}
+use native.Mathlib.Nat.{not-suc-le-zero, le-of-suc-le-suc}
+use native.Mathlib.Omega.{arith}
+use borrow.Author.Tests.{eq-eqb, ne-eqb, lt-ltb, le-ltb}
+use lib.Dec.{eqb, ltb}
+use lib.ListN.{length, getD, take, drop, replicate, length-append, length-drop, getD-replicate}
+use lib.Seq.{getD-drop, getD-take, getD-append-add, take-length, length-take-le}
+use Rattle.octets.specs.Lists.{part, length-part}
+use Rattle.octets.specs.Writes.{over-front}
+use Rattle.aes.specs.Aes.{aes}
+use Rattle.cbc.specs.Cbc.{zeros, encrypted}
+use Rattle.cbc.specs.Laws.{encrypted-front}
+use Rattle.padding.specs.Method2.{zeroBytes, padded, rightly, unpadded}
+use Rattle.padding.specs.Laws.{Seen, seen, rightly-seen, seen-none, unpadded-padded, textEnd-le}
+use Rattle.padding.specs.declared.Unpadded.the-variants.{Text, Malformed}
+use Rattle.steps.specs.Made.{matched}
+use Rattle.plaid_types.specs.Cards.{noSet, withSession, Reply}
+use Rattle.plaid_types.specs.declared.KeySet.{KeySet}
+use Rattle.plaid_types.specs.declared.KeySetSlot.{KeySetSlot}
+use Rattle.plaid_types.specs.declared.Mode.{Mode}
+use Rattle.plaid_types.specs.declared.ModeSlot.{ModeSlot}
+use Rattle.plaid_types.specs.declared.Session.{Session}
+use Rattle.plaid_types.specs.declared.Card.{Card}
+use Rattle.load.specs.Load.{setSlot, modeSlot, replySize, refusal, modesRefusal, loadedCard, loaded}
+use Rattle.load.specs.Laws.{pastSet, pastMode, setAt, modeAt, stocked-session}
+use Rattle.frame.specs.Frame.{frameOf, initialIns, insOf, lcOf, whole, statusOf, dataOf}
+use Rattle.frame.specs.Laws.{frame-byte}
+use Rattle.frame.specs.Declines.{noZero, padBytes, verdict}
+use Rattle.list.specs.Ber.{lengthAt, entryAt, head, walked, listed, placeCount}
+use Rattle.initial.specs.Initial.{firstSlot, firstPlace, slotOf, acceptsInitial, str1, blockOf, initialReply}
+use Rattle.final_command.specs.Final.{decipheredText, keysHash, modeOf, accepting, acceptsFinal, replyKey, replyText, replyBuffer, finalBytes, finalReply}
+use Rattle.final_command.specs.Laws.{size-loaded}
+use Rattle.card.specs.Command.{replyTo, verdictOn, outcome, answerBytes}
+use Rattle.card.specs.Lists.{Call, outcomeOf, bytesOf, run, accepted, Shape, shapeOf, initialShape, finalShape, formulas}
+use Rattle.card.specs.Demand3.{Sound, list-formulas}
+use Rattle.reader_seal.specs.Seal.{lcOf as lcFor, finalCommand, sealCommand, sealNumber, sealedOf, sealOutput}
+use Rattle.reader_seal.specs.Laws.{length-sealCommand}
+use Rattle.session_initial.specs.Held.{heldIn, Holds, slot-holds, slot-missing}
+use Rattle.session_final.specs.SealFrame.{framed-status, framed-data}
+use Rattle.plaid.specs.Interface.{loadOf}
+use Rattle.session_final.specs.Reply.{refused-reply}
+use Rattle.claims.specs.Load.{Load, cardOf}
+use Rattle.claims.specs.Loaded.{is-a-load, sound, set-slot, slot-given, sets-most, mode-slot, div-given, key-given, handle-given}
+use Rattle.claims.specs.Loads.{set, given, area, load-of, one-key, two-keys}
+use Rattle.claims.specs.Found.{held-there}
+use Rattle.claims.specs.Edges.{Of, OfAll, Gave, framed, Lent, EachCall, Answered, Refused, FinalRefused, Final, Records, Size, Seals, Good, Bad, edges, All, end, _and_}
+
+-- the load's card with any session
+sound-in : (l : Load) (s : Session) → length (s .rnd1) ≡ 16 → Sound (withSession (cardOf l) s)
+sound-in l s r = let k = sound l in record { sets = k .sets; modes = k .modes; div = k .div; rnd1 = r; size = k .size }
+
+-- loads with the properties of the edges
+load-15 : (l : Load) × Records l 0 15
+unfolding set given area load-of loadOf loaded refusal modesRefusal
+load-15 = (load-of (set 1 ∷ []) 0 15 (one-key 1 (omega arith)) refl, record { within = omega arith; size = refl })
+
+load-16 : (l : Load) × (Records l 0 16 × Gave l 0 1)
+unfolding set given area load-of loadOf loaded refusal modesRefusal
+load-16 = (load-of (set 1 ∷ []) 0 16 (one-key 1 (omega arith)) refl, (record { within = omega arith; size = refl }, record { within = omega arith; id = refl }))
+
+load-64 : (l : Load) × Records l 0 64
+unfolding set given area load-of loadOf loaded refusal modesRefusal
+load-64 = (load-of (set 1 ∷ []) 0 64 (one-key 1 (omega arith)) refl, record { within = omega arith; size = refl })
+
+load-two : (l : Load) × (Gave l 0 2 × Gave l 1 5)
+unfolding set given area load-of loadOf loaded refusal modesRefusal
+load-two = (load-of (set 2 ∷ set 5 ∷ []) 0 16 (two-keys 2 5 (omega arith) (omega arith)) refl, (record { within = omega arith; id = refl }, record { within = omega arith; id = refl }))
+
+-- there are such fresh bytes and outputs
+pub some-lent : Lent (replicate 253 1) 256
+some-lent = record { fresh-long = refl; pads-nonzero = λ i h k e. let q = sym (getD-replicate 253 i 1 0 k) ∙ e in omega arith; room-enough = omega arith }
+
+-- a call is not declined that is lent what it needs and whose frame has no fault
+no-zero : (s : List ℕ) → ((i : ℕ) → i < length s → getD s i 0 ≡ 0 → ⊥) → noZero s ≡ true
+no-zero [] f = refl
+no-zero (b ∷ s) f = rw (ne-eqb b 0 (f 0 (omega arith))) (no-zero s (λ i h. f (suc i) (omega arith)))
+
+passes : (cmd fresh : List ℕ) (room : ℕ) → Lent fresh room → statusOf (length cmd) (frameOf cmd) ≡ 0x9000 → verdictOn cmd fresh room .status ≡ 0x9000
+unfolding verdict padBytes
+passes cmd fresh room t e =
+    let n = t .fresh-long in
+    let pad : (i : ℕ) → i < length (drop 50 fresh) → getD (drop 50 fresh) i 0 ≡ 0 → ⊥ =
+    λ i h q. t .pads-nonzero (50 + i) (omega arith) (omega (arith, length-drop 50 fresh)) (sym (getD-drop 50 fresh i 0) ∙ q) in
+    rw (eq-eqb (length fresh) 253 n, no-zero (drop 50 fresh) pad, le-ltb room 256 (t .room-enough)) e
+
+-- what the frame of a command says
+record Frames (ins : ℕ) (d : List ℕ) : Type 0 where
+  status : statusOf (length (framed ins d)) (frameOf (framed ins d)) ≡ 0x9000
+  data-is : dataOf (framed ins d) ≡ d
+
+-- such a call on a load's card: it hands back what the reply says, and its counts are the formulas'
+module _ (l : Load) (ins : ℕ) (d : List ℕ) (f : Frames ins d) (s : Session) (fresh : List ℕ) (room : ℕ) (lr : length (s .rnd1) ≡ 16) (t : Lent fresh room) where
+  abbrev c : Card
+  c = withSession (cardOf l) s
+
+  abbrev x : Call
+  x = record { command = framed ins d; fresh = fresh; room = room }
+
+  reply : Reply
+  reply = cond (eqb ins initialIns) (initialReply c d fresh) (finalReply c d fresh)
+
+  taken : eqb (verdictOn (framed ins d) fresh room .status) 0x9000 ≡ true
+  taken = eq-eqb (verdictOn (framed ins d) fresh room .status) 0x9000 (passes (framed ins d) fresh room t (f .status))
+
+  ins-is : insOf (frameOf (framed ins d)) ≡ ins
+  ins-is = frame-byte (framed ins d) 1 (omega arith)
+
+  lc-is : lcOf (frameOf (framed ins d)) ≡ length d
+  lc-is = frame-byte (framed ins d) 4 (omega arith)
+
+  reply-is : replyTo c (framed ins d) fresh ≡ reply
+  unfolding replyTo reply
+  reply-is = rw (ins-is, f .data-is)
+
+  call-handle : outcomeOf c x .answer .handle ≡ reply .handle
+  unfolding outcome
+  call-handle = rw taken (ap (λ (r : Reply). r .handle) reply-is)
+
+  call-card : outcomeOf c x .card ≡ withSession (cardOf l) (reply .session)
+  unfolding outcome
+  call-card = rw taken (ap (λ (r : Reply). withSession c (r .session)) reply-is)
+
+  call-bytes : bytesOf c x ≡ reply .bytes
+  unfolding answerBytes
+  call-bytes = rw taken (ap (λ (r : Reply). r .bytes) reply-is)
+
+  call-shape : shapeOf (outcomeOf c x .answer) ≡ cond (eqb ins initialIns) (initialShape (length d)) (finalShape (c .«reply_size») (length d))
+  unfolding run formulas
+  call-shape = ap (λ (y : List Shape). getD y 0 (shapeOf (outcomeOf c x .answer))) (list-formulas (x ∷ []) c (sound-in l s lr)) ∙ rw (taken, ins-is, lc-is)
+
+  call-accepted : accepted c x ≡ cond (eqb ins initialIns) (acceptsInitial c d) (acceptsFinal c d)
+  unfolding accepted
+  call-accepted = rw (taken, ins-is, f .data-is)
+
+-- the block of an initial answer
+block-is : (fresh text : List ℕ) → blockOf fresh text ≡ 0 ∷ 2 ∷ (drop 50 fresh ++ (0 ∷ text))
+unfolding blockOf padBytes
+block-is fresh text = ap (λ (y : List ℕ). 0 ∷ 2 ∷ y) (append-assoc (drop 50 fresh) (0 ∷ []) text)
+
+-- an initial command
+module _ (l : Load) (d : List ℕ) (f : Frames 0x87 d) (s : Session) (fresh : List ℕ) (room : ℕ) (lr : length (s .rnd1) ≡ 16) (t : Lent fresh room) where
+  initial-shape : shapeOf (outcomeOf (c l 0x87 d f s fresh room lr t) (x l 0x87 d f s fresh room lr t) .answer) ≡ initialShape (length d)
+  initial-shape = call-shape l 0x87 d f s fresh room lr t
+
+  -- for which slot n of KeySetID k is found
+  answered : (k n : ℕ) → slotOf (withSession (cardOf l) s) d ≡ n → Holds (cardOf l .sets) n k →
+      Answered l k (8 * (length d / 4)) (withSession (cardOf l) s) (record { command = framed 0x87 d; fresh = fresh; room = room })
+  unfolding reply initialReply str1
+  answered k n e h =
+      let w = h .below in
+      let b : ltb (slotOf (withSession (cardOf l) s) d) 8 ≡ true = lt-ltb (slotOf (withSession (cardOf l) s) d) 8 (omega arith) in
+      let g = slot-given l n (h .kept) in
+      let q = set-slot l n g in
+      record {
+        number = ap (λ (y : Shape). y .number) initial-shape;
+        status = ap (λ (y : Shape). y .status) initial-shape;
+        comparisons = ap (λ (y : Shape). y .comparisons) initial-shape;
+        place = n;
+        gave = record { within = g; id = sym (ap (λ (y : KeySetSlot). y .id .0) q) ∙ h .id };
+        handle = call-handle l 0x87 d f s fresh room lr t ∙ rw (b, e) (ap (λ (y : KeySetSlot). y .handle) q);
+        card =
+            call-card l 0x87 d f s fresh room lr t
+            ∙ rw (b, e) (ap (λ (j : ℕ). withSession (cardOf l) (record { opened = true; id = record { 0 = j }; rnd1 = part fresh 0 16 })) (h .id));
+        block = call-bytes l 0x87 d f s fresh room lr t ∙ rw (b, e, h .id, div-given l) (block-is fresh (str1 k (l .given .«div_data») (part fresh 0 16)));
+      }
+
+  refused : acceptsInitial (withSession (cardOf l) s) d ≡ false →
+      Refused l (8 * (length d / 4)) (withSession (cardOf l) s) (record { command = framed 0x87 d; fresh = fresh; room = room })
+  unfolding reply initialReply
+  refused e =
+      record {
+        number = ap (λ (y : Shape). y .number) initial-shape;
+        status = ap (λ (y : Shape). y .status) initial-shape;
+        comparisons = ap (λ (y : Shape). y .comparisons) initial-shape;
+        handle = call-handle l 0x87 d f s fresh room lr t ∙ rw e (handle-given l);
+        card = call-card l 0x87 d f s fresh room lr t ∙ rw e;
+        block = call-bytes l 0x87 d f s fresh room lr t ∙ rw e (block-is fresh (part fresh 0 50));
+      }
+
+-- "set k held": the look for k finds a slot that holds it
+holds : (l : Load) (i k : ℕ) → Gave l i k → Holds (cardOf l .sets) (firstSlot 0 true k (cardOf l .sets)) k
+holds l i k g =
+    let e = set-slot l i (g .within) in
+    let n = is-a-load l .stocked .sets-long in
+    let w = sets-most l in
+    slot-holds k (cardOf l .sets) n
+    (held-there (cardOf l .sets) k i (omega (arith, g .within)) (ap (λ (y : KeySetSlot). y .held) e) (ap (λ (y : KeySetSlot). y .id .0) e ∙ g .id))
+
+-- data whose first entry is k
+record Names (d : List ℕ) (k : ℕ) : Type 0 where
+  frames : Frames 0x87 d
+  slot : (c : Card) → firstSlot 0 true k (c .sets) < 8 → slotOf c d ≡ firstSlot 0 true k (c .sets)
+
+answers : (d : List ℕ) (k : ℕ) → Names d k → (l : Load) (i : ℕ) → Gave l i k → EachCall l (framed 0x87 d) (Answered l k (8 * (length d / 4)))
+answers d k m l i g s fresh room lr t =
+    let h = holds l i k g in
+    answered l d (m .frames) s fresh room lr t k (firstSlot 0 true k (cardOf l .sets)) (m .slot (withSession (cardOf l) s) (h .below)) h
+
+names-one : Names (0x30 ∷ 4 ∷ 4 ∷ 2 ∷ 0 ∷ 1 ∷ []) 1
+unfolding statusOf whole frameOf dataOf part slotOf firstPlace listed head walked entryAt lengthAt
+names-one = record { frames = record { status = refl; data-is = refl }; slot = λ c h. rw (ne-eqb (firstSlot 0 true 1 (c .sets)) 8 (λ z. omega arith)) }
+
+names-five : Names (0x30 ∷ 8 ∷ 4 ∷ 2 ∷ 0 ∷ 5 ∷ 4 ∷ 2 ∷ 0 ∷ 2 ∷ []) 5
+unfolding statusOf whole frameOf dataOf part slotOf firstPlace listed head walked entryAt lengthAt
+names-five = record { frames = record { status = refl; data-is = refl }; slot = λ c h. rw (ne-eqb (firstSlot 0 true 5 (c .sets)) 8 (λ z. omega arith)) }
+
+names-one-81 : Names (0x30 ∷ 0x81 ∷ 4 ∷ 4 ∷ 2 ∷ 0 ∷ 1 ∷ []) 1
+unfolding statusOf whole frameOf dataOf part slotOf firstPlace listed head walked entryAt lengthAt
+names-one-81 = record { frames = record { status = refl; data-is = refl }; slot = λ c h. rw (ne-eqb (firstSlot 0 true 1 (c .sets)) 8 (λ z. omega arith)) }
+
+one-edge : Of (λ l. (i : ℕ) × Gave l i 1) (λ l. EachCall l (framed 0x87 (0x30 ∷ 4 ∷ 4 ∷ 2 ∷ 0 ∷ 1 ∷ [])) (Answered l 1 8))
+one-edge = ((load-16 .0, (0, load-16 .1 .1)), λ l p. answers _ 1 names-one l (p .0) (p .1))
+
+five-edge : Of (λ l. Gave l 0 2 × Gave l 1 5) (λ l. EachCall l (framed 0x87 (0x30 ∷ 8 ∷ 4 ∷ 2 ∷ 0 ∷ 5 ∷ 4 ∷ 2 ∷ 0 ∷ 2 ∷ [])) (Answered l 5 16))
+five-edge = (load-two, λ l p. answers _ 5 names-five l 1 (p .1))
+
+one-81-edge : Of (λ l. (i : ℕ) × Gave l i 1) (λ l. EachCall l (framed 0x87 (0x30 ∷ 0x81 ∷ 4 ∷ 4 ∷ 2 ∷ 0 ∷ 1 ∷ [])) (Answered l 1 8))
+one-81-edge = ((load-16 .0, (0, load-16 .1 .1)), λ l p. answers _ 1 names-one-81 l (p .0) (p .1))
+
+-- "Refused (malformed or no match)": no entry, or a malformed list, which "has only missing places"
+record NamesNone (d : List ℕ) : Type 0 where
+  frames : Frames 0x87 d
+  slot : (c : Card) → length (c .sets) ≡ 8 → acceptsInitial c d ≡ false
+
+refuses : (d : List ℕ) → NamesNone d → OfAll (λ l. EachCall l (framed 0x87 d) (Refused l (8 * (length d / 4))))
+refuses d m = (
+  load-16 .0,
+  λ l s fresh room lr t. refused l d (m .frames) s fresh room lr t (m .slot (withSession (cardOf l) s) (is-a-load l .stocked .sets-long)),
+)
+
+malformed : (sets : List KeySetSlot) (d : List ℕ) (p n : ℕ) → length sets ≡ 8 → firstPlace sets false d p n ≡ 8
+unfolding firstPlace
+malformed sets d p zero e = refl
+malformed sets d p (suc n) e =
+    rw (eq-eqb (firstSlot 0 false (entryAt d p .id) sets) 8 (omega (arith, slot-missing 0 (entryAt d p .id) sets))) (malformed sets d (entryAt d p .next) n e)
+
+malformed-refused : (d : List ℕ) → listed d .formed ≡ false → (c : Card) → length (c .sets) ≡ 8 → acceptsInitial c d ≡ false
+unfolding slotOf
+malformed-refused d f c e = rw (f, malformed (c .sets) d (listed d .first) (placeCount d) e)
+
+none-edge : OfAll (λ l. EachCall l (framed 0x87 (0x30 ∷ 0 ∷ [])) (Refused l 0))
+unfolding statusOf whole frameOf dataOf part slotOf firstPlace
+none-edge = refuses (0x30 ∷ 0 ∷ []) (record { frames = record { status = refl; data-is = refl }; slot = λ c e. refl })
+
+left-over-edge : OfAll (λ l. EachCall l (framed 0x87 (0x30 ∷ 4 ∷ 4 ∷ 2 ∷ 0 ∷ 1 ∷ 0 ∷ [])) (Refused l 8))
+unfolding statusOf whole frameOf dataOf part listed head walked entryAt lengthAt
+left-over-edge =
+    refuses (0x30 ∷ 4 ∷ 4 ∷ 2 ∷ 0 ∷ 1 ∷ 0 ∷ []) (record { frames = record { status = refl; data-is = refl }; slot = malformed-refused (0x30 ∷ 4 ∷ 4 ∷ 2 ∷ 0 ∷ 1 ∷ 0 ∷ []) refl })
+
+one-byte-edge : OfAll (λ l. EachCall l (framed 0x87 (0x30 ∷ 3 ∷ 4 ∷ 1 ∷ 1 ∷ [])) (Refused l 8))
+unfolding statusOf whole frameOf dataOf part listed head walked entryAt lengthAt
+one-byte-edge =
+    refuses (0x30 ∷ 3 ∷ 4 ∷ 1 ∷ 1 ∷ []) (record { frames = record { status = refl; data-is = refl }; slot = malformed-refused (0x30 ∷ 3 ∷ 4 ∷ 1 ∷ 1 ∷ []) refl })
+
+-- "record of n: B b"
+module _ (l : Load) (i n : ℕ) (r : Records l i n) where
+  mode-is : modeAt (cardOf l) i ≡ modeSlot (getD (l .given .modes) i pastMode)
+  mode-is = mode-slot l i (r .within)
+
+  size-is : cardOf l .«reply_size» ≡ replySize n
+  size-is = sym (is-a-load l .stocked .good i (ap (λ (m : ModeSlot). m .held) mode-is) .size) ∙ ap replySize (ap (λ (m : ModeSlot). m .len) mode-is ∙ r .size)
+
+size-edge : (n : ℕ) (l : Load) → Records l 0 n → Size n (replySize n)
+size-edge n l r = ((l, (0, r)), λ k p. size-is k (p .0) n (p .1))
+
+-- "payload p: Lc lc"
+seal-edge : (p : ℕ) → p ≤ 205 → Seals p (lcFor p)
+unfolding sealedOf sealOutput sealNumber sealCommand finalCommand
+seal-edge p h fa div rnd1 rnd2 mode payload out e room =
+    let m : ltb 205 (length payload) ≡ false = le-ltb 205 (length payload) (omega arith) in
+    let o : ltb (length out) (lcFor (length payload) + 6) ≡ false = le-ltb (length out) (lcFor (length payload) + 6) (omega arith) in
+    record {
+      number = rw (m, o);
+      total = rw (m, o) (length-sealCommand fa div rnd1 rnd2 mode payload ∙ omega arith);
+      lc-byte = rw (m, o, over-front) (ap lcFor e);
+    }
+
+-- "last block 80 and fifteen 00: good"
+good-edge : Good (0x80 ∷ replicate 15 0)
+unfolding padded
+good-edge s w =
+    let z : zeroBytes (length s) ≡ 15 = omega arith in
+    let e : s ++ (0x80 ∷ replicate 15 0) ≡ padded s = ap (λ (n : ℕ). s ++ (0x80 ∷ replicate n 0)) (sym z) in
+    let u : unpadded (s ++ (0x80 ∷ replicate 15 0)) ≡ Text (length s) = ap unpadded e ∙ unpadded-padded s in
+    (rightly-seen (s ++ (0x80 ∷ replicate 15 0)) (length s) (seen (s ++ (0x80 ∷ replicate 15 0)) (length s) u), u)
+
+-- "sixteen 00: bad": the byte that unpadding wants would be one of them
+bad-seen : (s : List ℕ) (n : ℕ) → Seen (s ++ replicate 16 0) n → ⊥
+bad-seen s n k =
+    let y : List ℕ = s ++ replicate 16 0 in
+    let m : length y ≡ length s + 16 = length-append s (replicate 16 0) in
+    let e : n ≡ length s + (n - length s) = omega (arith, k .last) in
+    let z : getD y n 0 ≡ 0 =
+    ap (λ (j : ℕ). getD y j 0) e
+    ∙ getD-append-add s (replicate 16 0) (n - length s) 0
+    ∙ getD-replicate 16 (n - length s) 0 0 (omega (arith, k .ends, k .last, textEnd-le y (length y))) in
+    let q = sym z ∙ k .one in
+    omega arith
+
+not-rightly : (s : List ℕ) (b : Bool) → rightly s ≡ b → unpadded s ≡ Malformed → b ≡ false
+unfolding unpadded
+not-rightly s true e u = cc
+not-rightly s false e u = refl
+
+bad-edge : Bad (replicate 16 0)
+bad-edge s w =
+    let u : unpadded (s ++ replicate 16 0) ≡ Malformed = seen-none (s ++ replicate 16 0) (bad-seen s) in
+    (not-rightly (s ++ replicate 16 0) (rightly (s ++ replicate 16 0)) refl u, u)
+
+-- a final command whose Lc is no multiple of 16 is not accepted
+not-accepting : (opened : Bool) (lc : ℕ) (s hash : List ℕ) (mode : ℕ) → (lc % 16 ≡ 0 → ⊥) → accepting opened lc s hash mode ≡ false
+unfolding accepting
+not-accepting true lc s hash mode h = rw (ne-eqb (lc % 16) 0 h)
+not-accepting false lc s hash mode h = refl
+
+not-accepted : (c : Card) (d : List ℕ) → (length d % 16 ≡ 0 → ⊥) → acceptsFinal c d ≡ false
+unfolding acceptsFinal
+not-accepted c d h = not-accepting (c .session .opened) (length d) (decipheredText c d) (keysHash c d) (modeOf c d) h
+
+final-frames : (d : List ℕ) → 0 < length d → Frames 0x86 d
+unfolding finalCommand
+final-frames d h = record { status = framed-status (length d) d refl h; data-is = framed-data (length d) d refl }
+
+final-refused : (l : Load) → cardOf l .«reply_size» ≡ 3 → (d : List ℕ) → 0 < length d → (length d % 16 ≡ 0 → ⊥) → EachCall l (framed 0x86 d) (FinalRefused l (length d / 16))
+unfolding reply finalReply
+final-refused l b d h o s fresh room lr t =
+    let f = final-frames d h in
+    let e : shapeOf (outcomeOf (withSession (cardOf l) s) (record { command = framed 0x86 d; fresh = fresh; room = room }) .answer) ≡ finalShape 3 (length d) =
+    call-shape l 0x86 d f s fresh room lr t ∙ rw b in
+    let r = not-accepted (withSession (cardOf l) s) d o in
+    record {
+      number = ap (λ (y : Shape). y .number) e;
+      status = ap (λ (y : Shape). y .status) e;
+      decipherments = ap (λ (y : Shape). y .decipherments) e;
+      encipherments = ap (λ (y : Shape). y .encipherments) e;
+      size = ap (λ (y : Shape). y .size) e;
+      handle = call-handle l 0x86 d f s fresh room lr t;
+      card = call-card l 0x86 d f s fresh room lr t;
+      refused = call-accepted l 0x86 d f s fresh room lr t ∙ r;
+      reply =
+          call-bytes l 0x86 d f s fresh room lr t
+          ∙ refused-reply (withSession (cardOf l) s) d fresh (stocked-session (cardOf l) s (is-a-load l .stocked)) r (t .fresh-long)
+          ∙ ap (λ (n : ℕ). encrypted (aes 4 (cardOf l .«shill_key»)) zeros n (part fresh 0 (16 * n))) b
+          ∙ ap (λ (k : List ℕ). encrypted (aes 4 k) zeros 3 (part fresh 0 48)) (key-given l);
+    }
+
+final-edge : (lc : ℕ) → 0 < lc → (lc % 16 ≡ 0 → ⊥) → Final lc (lc / 16)
+final-edge lc h o = (
+  (load-16 .0, size-is (load-16 .0) 0 16 (load-16 .1 .0)),
+  λ l b d e s fresh room lr t. rw (ap (λ (n : ℕ). n / 16) e) at (final-refused l b d (omega arith) (λ z. o (ap (λ (n : ℕ). n % 16) (sym e) ∙ z)) s fresh room lr t),
+)
+
+pub all-edges : All edges
+unfolding edges
+all-edges =
+    one-edge and
+    five-edge and
+    none-edge and
+    left-over-edge and
+    one-byte-edge and
+    one-81-edge and
+    size-edge 15 (load-15 .0) (load-15 .1) and
+    size-edge 16 (load-16 .0) (load-16 .1 .0) and
+    size-edge 64 (load-64 .0) (load-64 .1) and
+    seal-edge 13 (omega arith) and
+    seal-edge 14 (omega arith) and
+    seal-edge 205 (omega arith) and
+    good-edge and
+    bad-edge and
+    final-edge 255 (omega arith) (λ z. omega arith) and
+    final-edge 1 (omega arith) (λ z. omega arith) and
+    end
