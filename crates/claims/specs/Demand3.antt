@@ -3,7 +3,6 @@
 -- says are alike in all that it says." Assumes nothing.
 use mathlib.Core.Path.{_≡_, ap, _∙_}
 use mathlib.Core.List.{List, _∷_, _++_, map}
-use Prim.Native.Nat.{ℕ}
 use lib.ListN.{length, getD}
 use Rattle.work.specs.Steps.{workSum}
 use Rattle.plaid_types.specs.Cards.{noSession}

@@ -1,45 +1,39 @@
 -- Every edge of document 01 that is marked P holds. Assumes nothing.
 use mathlib.Core.Path.{_≡_, refl, sym, ap, _∙_}
-use mathlib.Core.Bool.{Bool, true, false, cond, _||_, or-true}
+use mathlib.Core.Bool.{Bool, true, false, cond}
 use mathlib.Core.List.{List, [], _∷_, _++_, append-assoc}
 use Prim.Native.Nat.{ℕ, zero, suc, _+_, _-_, _*_, _/_, _%_, _<_, _≤_}
-use native.Mathlib.Nat.{not-suc-le-zero, le-of-suc-le-suc}
 use native.Mathlib.Omega.{arith}
 use borrow.Author.Tests.{eq-eqb, ne-eqb, lt-ltb, le-ltb}
 use lib.Dec.{eqb, ltb}
-use lib.ListN.{length, getD, take, drop, replicate, length-append, length-drop, getD-replicate}
-use lib.Seq.{getD-drop, getD-take, getD-append-add, take-length, length-take-le}
-use Rattle.octets.specs.Lists.{part, length-part}
+use lib.ListN.{length, getD, drop, replicate, length-append, length-drop, getD-replicate}
+use lib.Seq.{getD-drop, getD-append-add}
+use Rattle.octets.specs.Lists.{part}
 use Rattle.octets.specs.Writes.{over-front}
 use Rattle.aes.specs.Aes.{aes}
 use Rattle.cbc.specs.Cbc.{zeros, encrypted}
-use Rattle.cbc.specs.Laws.{encrypted-front}
 use Rattle.padding.specs.Method2.{zeroBytes, padded, rightly, unpadded}
 use Rattle.padding.specs.Laws.{Seen, seen, rightly-seen, seen-none, unpadded-padded, textEnd-le}
 use Rattle.padding.specs.declared.Unpadded.the-variants.{Text, Malformed}
-use Rattle.steps.specs.Made.{matched}
-use Rattle.plaid_types.specs.Cards.{noSet, withSession, Reply}
-use Rattle.plaid_types.specs.declared.KeySet.{KeySet}
+use Rattle.plaid_types.specs.Cards.{withSession, Reply}
 use Rattle.plaid_types.specs.declared.KeySetSlot.{KeySetSlot}
-use Rattle.plaid_types.specs.declared.Mode.{Mode}
 use Rattle.plaid_types.specs.declared.ModeSlot.{ModeSlot}
 use Rattle.plaid_types.specs.declared.Session.{Session}
 use Rattle.plaid_types.specs.declared.Card.{Card}
-use Rattle.load.specs.Load.{setSlot, modeSlot, replySize, refusal, modesRefusal, loadedCard, loaded}
-use Rattle.load.specs.Laws.{pastSet, pastMode, setAt, modeAt, stocked-session}
+use Rattle.load.specs.Load.{modeSlot, replySize, refusal, modesRefusal, loaded}
+use Rattle.load.specs.Laws.{pastMode, modeAt, stocked-session}
 use Rattle.frame.specs.Frame.{frameOf, initialIns, insOf, lcOf, whole, statusOf, dataOf}
 use Rattle.frame.specs.Laws.{frame-byte}
 use Rattle.frame.specs.Declines.{noZero, padBytes, verdict}
 use Rattle.list.specs.Ber.{lengthAt, entryAt, head, walked, listed, placeCount}
 use Rattle.initial.specs.Initial.{firstSlot, firstPlace, slotOf, acceptsInitial, str1, blockOf, initialReply}
-use Rattle.final_command.specs.Final.{decipheredText, keysHash, modeOf, accepting, acceptsFinal, replyKey, replyText, replyBuffer, finalBytes, finalReply}
-use Rattle.final_command.specs.Laws.{size-loaded}
+use Rattle.final_command.specs.Final.{decipheredText, keysHash, modeOf, accepting, acceptsFinal, finalReply}
 use Rattle.card.specs.Command.{replyTo, verdictOn, outcome, answerBytes}
 use Rattle.card.specs.Lists.{Call, outcomeOf, bytesOf, run, accepted, Shape, shapeOf, initialShape, finalShape, formulas}
 use Rattle.card.specs.Demand3.{Sound, list-formulas}
 use Rattle.reader_seal.specs.Seal.{lcOf as lcFor, finalCommand, sealCommand, sealNumber, sealedOf, sealOutput}
 use Rattle.reader_seal.specs.Laws.{length-sealCommand}
-use Rattle.session_initial.specs.Held.{heldIn, Holds, slot-holds, slot-missing}
+use Rattle.session_initial.specs.Held.{Holds, slot-holds, slot-missing}
 use Rattle.session_final.specs.SealFrame.{framed-status, framed-data}
 use Rattle.plaid.specs.Interface.{loadOf}
 use Rattle.session_final.specs.Reply.{refused-reply}

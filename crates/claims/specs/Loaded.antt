@@ -1,26 +1,23 @@
 -- What a successful load made: its card in terms of what was given, and what every list of calls keeps true of it. Assumes nothing.
 use mathlib.Core.Path.{_≡_, refl, sym, ap, _∙_}
 use mathlib.Core.Bool.{Bool, true, false, cond, _||_}
-use mathlib.Core.List.{List, map, _++_}
+use mathlib.Core.List.{List}
 use Prim.Native.Nat.{ℕ, _+_, _-_, _<_, _≤_}
 use native.Mathlib.Nat.{le-refl}
 use native.Mathlib.Omega.{arith}
 use lib.Dec.{eqb, ltb}
-use lib.ListN.{length, getD, take, drop, replicate, length-append, length-drop}
+use lib.ListN.{length, getD, take, drop, replicate, length-drop}
 use lib.Seq.{take-length, take-append-le, drop-append-le, getD-take, length-take-le}
 use borrow.Author.Tests.{eqb-true, ltb-false}
 use Rattle.octets.specs.Bytes.{Bytes}
 use Rattle.octets.specs.ByteLists.{append-bytes, zeros-bytes}
 use Rattle.octets.specs.Lists.{part}
-use Rattle.plaid_types.specs.Cards.{noSession, withSession}
 use Rattle.plaid_types.specs.declared.KeySet.{KeySet}
-use Rattle.plaid_types.specs.declared.KeySetSlot.{KeySetSlot}
 use Rattle.plaid_types.specs.declared.Mode.{Mode}
-use Rattle.plaid_types.specs.declared.ModeSlot.{ModeSlot}
 use Rattle.plaid_types.specs.declared.Session.{Session}
 use Rattle.plaid_types.specs.declared.Card.{Card}
 use Rattle.load.specs.Load.{refusal, badRecord, filled, setSlot, modeSlot, loadedCard, blankCard, loaded}
-use Rattle.load.specs.Laws.{pastSet, pastMode, neither, some-none, Accepted, accepted, setAt, modeAt, set-held, mode-held, set-given, mode-given, Stocked, IsLoaded, is-loaded, load-made}
+use Rattle.load.specs.Laws.{pastSet, pastMode, neither, some-none, Accepted, accepted, setAt, modeAt, set-held, mode-held, set-given, mode-given, IsLoaded, is-loaded, load-made}
 use Rattle.load.specs.declared.Loaded.{Loaded}
 use Rattle.card.specs.Demand3.{Sound}
 use Rattle.plaid.specs.Interface.{loadOf}

@@ -1,8 +1,8 @@
 -- Document 01, "Final": what a final command is answered, on every card that a successful load and any calls left, whoever made the command.
 -- Assumes nothing.
 use mathlib.Core.Path.{_≡_, refl, sym, ap, ap₂, _∙_}
-use mathlib.Core.Bool.{Bool, true, false, cond, _&&_, not, true≢false}
-use mathlib.Core.List.{List, [], _++_}
+use mathlib.Core.Bool.{Bool, true, false, not, true≢false}
+use mathlib.Core.List.{List, _++_}
 use Prim.Native.Nat.{ℕ, _*_, _<_}
 use lib.Dec.{eqb}
 use lib.ListN.{length, getD}
@@ -13,14 +13,10 @@ use Rattle.padding.specs.Method2.{padded}
 use Rattle.cbc.specs.Cbc.{encrypted, zeros}
 use Rattle.frame.specs.Frame.{frameOf, dataOf}
 use Rattle.frame.specs.Laws.{passed}
-use Rattle.plaid_types.specs.Cards.{Reply}
-use Rattle.plaid_types.specs.declared.OpModeId.{OpModeId}
-use Rattle.plaid_types.specs.declared.Mode.{Mode}
 use Rattle.plaid_types.specs.declared.ModeSlot.{ModeSlot}
 use Rattle.plaid_types.specs.declared.Card.{Card}
 use Rattle.load.specs.Load.{modeSlot}
-use Rattle.load.specs.Laws.{pastMode, modeAt, Stocked}
-use Rattle.initial.specs.Initial.{acceptsInitial, initialReply}
+use Rattle.load.specs.Laws.{pastMode, modeAt}
 use Rattle.final_command.specs.Final.{textOf, keysHash, opMode, modeOf, acceptsFinal, finalReply}
 use Rattle.card.specs.Command.{verdictOn, replyTo, answerBytes}
 use Rattle.card.specs.Lists.{Call, cardAfter, bytesOf, isDeclined, isInitial, accepted}

@@ -11,8 +11,6 @@ use lib.Seq.{getD-take, length-take-le}
 use borrow.Author.Tests.{ltb-true, ltb-false}
 use Rattle.octets.specs.Bytes.{Bytes, Block}
 use Rattle.octets.specs.Lists.{part}
-use Rattle.plaid_types.specs.Cards.{noSet, withSession}
-use Rattle.plaid_types.specs.declared.KeySet.{KeySet}
 use Rattle.plaid_types.specs.declared.KeySetId.{KeySetId}
 use Rattle.plaid_types.specs.declared.KeySetSlot.{KeySetSlot}
 use Rattle.plaid_types.specs.declared.OpModeId.{OpModeId}

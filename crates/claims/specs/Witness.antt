@@ -1,44 +1,40 @@
 -- A whole session, closed: every hypothesis of the two claims is met. The card's first session is broken off behind its initial command; the reader
 -- then lists a set that the card does not hold and one that it does. Assumes nothing.
-use mathlib.Core.Path.{_≡_, refl, sym, ap, _∙_}
+use mathlib.Core.Path.{_≡_, refl, ap, _∙_}
 use mathlib.Core.Bool.{Bool, true, false, cond}
 use mathlib.Core.List.{List, [], _∷_, _++_}
 use Prim.Native.Nat.{ℕ, zero, suc, _*_, _<_, _≤_}
-use native.Mathlib.Nat.{not-suc-le-zero}
 use native.Mathlib.Omega.{arith}
 use lib.Dec.{eqb, ltb}
-use lib.ListN.{length, getD, take, drop, replicate, length-append}
+use lib.ListN.{length, getD, take, replicate, length-append}
 use lib.Seq.{drop-at, take-all}
 use borrow.Author.Tests.{le-ltb, eq-eqb, ne-eqb}
-use Rattle.octets.specs.Bytes.{Bytes, Block}
+use Rattle.octets.specs.Bytes.{Bytes}
 use Rattle.octets.specs.Lists.{part, over}
 use Rattle.plaid_types.specs.Cards.{withSession}
-use Rattle.plaid_types.specs.declared.KeySet.{KeySet}
 use Rattle.plaid_types.specs.declared.KeySetId.{KeySetId}
-use Rattle.plaid_types.specs.declared.Mode.{Mode}
 use Rattle.plaid_types.specs.declared.Card.{Card}
 use Rattle.plaid_types.specs.declared.Outcome.{Outcome}
 use Rattle.frame.specs.Frame.{frameOf, whole, statusOf, dataOf}
 use Rattle.frame.specs.Declines.{padBytes, noZero, verdict}
 use Rattle.load.specs.Load.{refusal, modesRefusal, loadedCard, loaded, filled}
-use Rattle.load.specs.Laws.{pastSet, pastMode}
+use Rattle.load.specs.Laws.{pastSet}
 use Rattle.card.specs.Command.{replyTo, told, declined, verdictOn, outcome, answerBytes}
-use Rattle.card.specs.Lists.{Call, cardAfter, Agree, AllAlike, none, more}
+use Rattle.card.specs.Lists.{Call, cardAfter, Agree, none, more}
 use Rattle.reader_list.specs.List.{listNumber, listed, listOutput, listCommand}
 use Rattle.list.specs.Ber.{lengthAt, entryAt, head, walked}
 use Rattle.list.specs.Ber as ber
 use Rattle.list.specs.Encoding.{encoded, shortEntries}
 use Rattle.initial.specs.Initial.{firstPlace, slotOf, str1, blockOf, initialReply}
-use Rattle.reader_open.specs.Open.{noId, formed, agrees, opensAs, blockAt, winner, opened, openNumber}
+use Rattle.reader_open.specs.Open.{noId, formed, opensAs, blockAt, winner, opened, openNumber}
 use Rattle.reader_seal.specs.Seal.{sealNumber, sealedOf}
 use Rattle.reader_accept.specs.Accept.{knownLength, decipheredText, authenticated, acceptNumber, acceptedOf}
 use Rattle.reader_accept.specs.Laws.{known}
 use Rattle.plaid.specs.Interface.{loadOf}
-use Rattle.plaid.specs.declared.Given.{Given}
 use Rattle.claims.specs.Load.{Load, cardOf}
 use Rattle.claims.specs.Loads.{block-of, set, given, area, load-of, two-keys}
-use Rattle.claims.specs.Demand3.{Demand3, demand-3, shapes}
-use Rattle.claims.specs.Session.{Exchange, Conditions, Promised, answer₁, returned, session-promise}
+use Rattle.claims.specs.Demand3.{demand-3, shapes}
+use Rattle.claims.specs.Session.{Exchange, Conditions, answer₁, returned, session-promise}
 
 -- a call whose platform lends what it should gets no number, whatever the command
 module _ (c : Card) (cmd fresh : List ℕ) (room : ℕ) (lf : length fresh ≡ 253) (nz : noZero (padBytes fresh) ≡ true) (h : 256 ≤ room) where

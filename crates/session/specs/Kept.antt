@@ -9,8 +9,7 @@ use borrow.Author.Tests.{eqb-true}
 use Rattle.octets.specs.Same.{split-and}
 use Rattle.frame.specs.Frame.{frameOf, dataOf}
 use Rattle.frame.specs.Laws.{passed}
-use Rattle.plaid_types.specs.Cards.{noSession, noSet, withSession}
-use Rattle.plaid_types.specs.declared.KeySetSlot.{KeySetSlot}
+use Rattle.plaid_types.specs.Cards.{noSession, noSet}
 use Rattle.plaid_types.specs.declared.Session.{Session}
 use Rattle.plaid_types.specs.declared.Card.{Card}
 use Rattle.load.specs.Laws.{Stocked, setAt}
