@@ -20,7 +20,8 @@ take() {
 # of NAME: the value of this name in $section, or nothing
 of() { printf '%s' "${v[$section/$1]-}"; }
 at() { printf '%s' "${v[load/$1]-}"; }
-check() { printf '%s\t%s\t%s\n' "[$section] $1" "$2" "$3"; }
+# check LABEL VALUE RECOMPUTED: nothing where the file leaves the value out
+check() { [ -z "$2" ] || printf '%s\t%s\t%s\n' "[$section] $1" "$2" "$3"; }
 
 zeros() { printf '%0*d' "$1" 0; }
 decimal() { printf '%d' "0x$1"; }
@@ -129,10 +130,12 @@ decrypted() { binary "$1" | openssl pkeyutl -decrypt -keyform DER -inkey "$room/
 aes() { binary "$3" | openssl enc "-aes-128-$1" -nopad -K "$2" $([ "$1" = ecb ] || echo "-iv $(zeros 32)") | digits; }
 
 session_openssl() {
+    local key
+    key=$(aes ecb "$(of FAKey)" "$(at DivData)")
     check 'eSTR1, by openssl' "$(of eSTR1)" "$(encrypted IAKey "$(of EM)")"
-    check 'RSADecrypt(eSTR1), by openssl' "$(of 'RSADecrypt(eSTR1)')" "$(decrypted "$(of eSTR1)")"
-    check 'FAKey(DIV), by openssl' "$(of 'FAKey(DIV)')" "$(aes ecb "$(of FAKey)" "$(at DivData)")"
-    check 'eSTR2, by openssl' "$(of eSTR2)" "$(aes cbc "$(of 'FAKey(DIV)')" "$(of 'STR2 padded')")"
+    [ -z "$(at 'IAKey p')" ] || check 'RSADecrypt(eSTR1), by openssl' "$(of 'RSADecrypt(eSTR1)')" "$(decrypted "$(of eSTR1)")"
+    check 'FAKey(DIV), by openssl' "$(of 'FAKey(DIV)')" "$key"
+    check 'eSTR2, by openssl' "$(of eSTR2)" "$(aes cbc "$key" "$(padded "$(str2)")")"
     check 'eSTR3, by openssl' "$(of eSTR3)" "$(aes cbc "$(of KeysHash)" "$(of 'STR3 padded')")"
 }
 stranger_openssl() {
@@ -141,19 +144,22 @@ stranger_openssl() {
 }
 
 # The formulas that only join or hash.
+str2() { printf '%s' "$(of OpModeID)$(of RND2)$(of Payload)$(of KeysHash)"; }
 session_joined() {
-    local data=$(of eSTR2) digest=$(of SHA-256)
+    local data digest
+    data=$(of eSTR2)
+    digest=$(binary "$(of RND1)$(of RND2)" | sha256sum | head -c 64)
     check STR1 "$(of STR1)" "$(of KeySetID)$(at DivData)$(of RND1)$(of RND1)"
-    check EM "$(of EM)" "0002$(of PS)00$(of STR1)"
+    check EM "$(of EM)" "0002$(of PS)00$(of KeySetID)$(at DivData)$(of RND1)$(of RND1)"
     check 'IA response' "$(of 'IA response')" "$(of eSTR1)9000"
     check 'RND1 || RND2' "$(of 'RND1 || RND2')" "$(of RND1)$(of RND2)"
-    check 'SHA-256, by sha256sum' "$digest" "$(binary "$(of 'RND1 || RND2')" | sha256sum | head -c 64)"
+    check 'SHA-256, by sha256sum' "$(of SHA-256)" "$digest"
     check KeysHash "$(of KeysHash)" "${digest:0:32}"
-    check STR2 "$(of STR2)" "$(of OpModeID)$(of RND2)$(of Payload)$(of KeysHash)"
-    check 'STR2 padded' "$(of 'STR2 padded')" "$(padded "$(of STR2)")"
+    check STR2 "$(of STR2)" "$(str2)"
+    check 'STR2 padded' "$(of 'STR2 padded')" "$(padded "$(str2)")"
     check 'FA command' "$(of 'FA command')" "00860000$(printf '%02x' $((${#data} / 2)))${data}00"
     check STR3 "$(of STR3)" "$(of ACSRecord)$(at DivData)"
-    check 'STR3 padded' "$(of 'STR3 padded')" "$(padded "$(of STR3)")"
+    check 'STR3 padded' "$(of 'STR3 padded')" "$(padded "$(of ACSRecord)$(at DivData)")"
     check 'FA response' "$(of 'FA response')" "$(of eSTR3)9000"
 }
 stranger_joined() {
@@ -178,8 +184,8 @@ checks() {
     every joined
     command -v openssl >/dev/null || return 0
     rsa_keys >"$room/rsa" 2>&1
-    # With a wrong number openssl ends well all the same, and says so.
-    check 'IAKey, by openssl' 'RSA key ok' "$(grep -o 'RSA key .*' "$room/rsa")"
+    # With a wrong number openssl ends well all the same, and says so. It needs p to qInv to decrypt.
+    [ -z "$(at 'IAKey p')" ] || check 'IAKey, by openssl' 'RSA key ok' "$(grep -o 'RSA key .*' "$room/rsa")"
     every openssl
 }
 

@@ -1,4 +1,4 @@
-# Sourced by tests/joint/run: what docs/STANDARD.md says that the other maker's reader or card sees, as calls of the library. Keys, random
+# Sourced by tests/joint/run: what docs/STANDARD.md and include/plaid.h say of the line, as calls of the library. Keys, random
 # bytes and answers are the joint test's, taken before. says LABEL CALL RESULT: one such call, as 'label, tab, call => result'.
 says() { printf '%s\t%s => %s\n' "$1" "$2" "$3"; }
 lc() { printf '%02x' $((${#1} / 2)); }
@@ -60,6 +60,20 @@ unpadded_final() {
     says "unpadded: final" "$(call "00860000$(lc "$data")${data}00" "$(fresh "$(of 'random string 3')" "$ps")")" "$(answered 0 "$(of AESEncrypt)" -)"
 }
 
+# Two programs that take turns at one card: neither gets a record.
+turns() {
+    local section name refusal
+    for section in 'session 1' 'session 2'; do
+        says "turns: initial, $section" "$(call "$(of 'IA command')" "$(fresh "$(of RND1)" "$(of PS)")")" \
+            "$(answered "$ia" "$(of EM)" "$(decimal "$(of KeySetID)"):$(of RND1)")"
+    done
+    section=stranger
+    refusal=$(of AESEncrypt)
+    for name in 'session 1' 'session 2'; do
+        says "turns: final, $name" "$(call "${v[$name/FA command]}" "$(fresh "$(of 'random string 3')" "$(of PS)")")" "$(answered 0 "$refusal" -)"
+    done
+}
+
 # The other maker's card: a record of 16 bytes answered without padding, refusals of any length, a KeySetID that is not the entry's.
 answer_lines() {
     local section='session 1' start size short response
@@ -76,7 +90,7 @@ answer_lines() {
 # As checks, for the calls above.
 wire_checks() {
     local section=load
-    { printf 'load\t%s\n' "$(load_line)"; frame_lines; list_lines; unpadded_final; answer_lines; } >"$room/wire"
+    { printf 'load\t%s\n' "$(load_line)"; frame_lines; list_lines; unpadded_final; turns; answer_lines; } >"$room/wire"
     cut -f 2 "$room/wire" >"$room/want"
     given >"$room/got"
     paste -d '\t' <(sed 's/\t.*//; s/^/wire: /' "$room/wire") "$room/want" "$room/got"
