@@ -44,7 +44,6 @@ const HEAD: &str = "\
 # Where the standard is open, this is what the test takes:
 #   - a command is CLA INS P1 P2 Lc data Le, with Le 00
 #   - padding method 2 is always added, also to a text of whole blocks
-#   - KeysHash is the first 16 bytes of the digest
 #   - STR3 has no Payload
 #   - IV is 16 zero bytes, for each message anew
 #   - the random string of a refused answer is as long as what it stands for:
@@ -61,7 +60,7 @@ fn load(page: &mut Page, inputs: &Inputs) {
         page.input(&format!("ACSRecord of mode {}", place + 1), &inputs.load.area[mode.start..][..mode.len]);
     }
     page.input("DivData", &inputs.load.div_data);
-    page.note("The reader's half has d, or p to qInv; the card's has n and e.");
+    page.note("Card: n and e. Reader: n and d, or p to qInv. By ShillKey nobody decrypts.");
     for (name, value) in &inputs.keys {
         page.input(name, value);
     }
