@@ -38,6 +38,25 @@
  *   - Numbers inside commands, blocks and answers stand high byte first. The
  *     functions write and read them so; the structs hold plain numbers.
  *
+ * On the line
+ *
+ *   The two commands belong together. A card has one session: each initial
+ *   command ends the last one, and each final command closes it, also one that
+ *   is refused. So a reader holds a transaction over both (PC/SC:
+ *   SCardBeginTransaction to SCardEndTransaction). Without it two programs
+ *   that take turns at one card both end with 20.
+ *
+ *   A power cycle or a reset ends the session. The card's platform starts from
+ *   the card without it: the card that plaid_load returned.
+ *
+ *   T=1 and contactless cards carry a command and its answer whole, as
+ *   plaid_command takes and gives them. T=0 does not; there the platforms map.
+ *   The reader's sends Lc + 5 bytes, without Le. The card's adds Le 00, calls
+ *   plaid_command, keeps the answer and sends 61 and its length, 00 for 256.
+ *   The reader's sends GET RESPONSE (00 C0 00 00 and that length) and gets the
+ *   bytes and the status. The library has no GET RESPONSE: it says 6D00. An
+ *   answer kept is sent once, and erased at any other command.
+ *
  * What the platform lends
  *
  *   Fresh bytes. plaid_command gets 253 in each call. They are random and no
@@ -260,7 +279,27 @@ typedef struct plaid_loaded {
  *    7  two records have unequal B
  * No card results: all fields of `card` are 0. Do not use it as one.
  *
- * Cards that are to look alike to strangers have equal shill keys and equal B.
+ * FAKeys are given undiversified. The card diversifies them by its DivData in
+ * each final command, so whoever reads out a card has the FAKeys of its sets,
+ * for every card that holds these.
+ *
+ * DivData is unique for each card, best random, and guarded like a key: Accept
+ * knows the card by it. The public halves of the RSA keys are guarded too, on
+ * the card and off it: who has one can answer an initial command in a card's
+ * place. ISO/IEC 25185-1, annex B, recommends that both halves be managed like
+ * shared symmetric keys.
+ *
+ * Shill keys. Decline 3 compares handles and sees no keys: the personaliser
+ * sees to it that the shill handle's RSA key is no key set's under another
+ * handle. Nobody needs the private half of the shill RSA key; with it refusals
+ * can be told from acceptances.
+ *
+ * ISO/IEC 25185-1 has the shill keys random, made by the card and known to it
+ * alone. That two cards' refusals are alike is proved for equal shill keys and
+ * equal B; this is the proof's condition, and no advice. What sharing hides: a
+ * stranger who gathers refused answers can estimate the RSA modulus, by which
+ * cards are told apart where each has its own. What sharing costs: shill keys
+ * that leak from one card, or from where they are made, have leaked for all.
  */
 plaid_loaded plaid_load(const plaid_key_set *sets, size_t set_count,
                         plaid_given given,
@@ -298,13 +337,21 @@ typedef struct plaid_outcome {
  * Back: the answer and the next card. THE CARD HANDED BACK REPLACES THE OLD
  * ONE, after each call, declined ones too. To use an old value again is to
  * roll the session back: a final command that was answered once would be
- * answered again. After a reset, start from the card that the load returned.
+ * answered again. After a power cycle or a reset, start from the card that the
+ * load returned, which has no session.
  *
  * A command is CLA 00, INS 87 or 86, P1 P2 0000, Lc from 1 to 255, Lc data
  * bytes, Le 00: Lc + 6 bytes in all.
  *
  * Initial command (INS 87). The data is a list of KeySetIDs in BER, as
  * plaid_list writes it; the first one that the card holds wins.
+ *   The bytes: 30, the length of all that follows, and for each KeySetID 04 02
+ *   and its two bytes. Sets 0001 and 0102 are 30 08 04 02 00 01 04 02 01 02,
+ *   the command 00 87 00 00 0A, these ten, 00. A length is one byte under 80,
+ *   or 81 and one byte. Nothing may follow.
+ *   A wrong tag, a wrong length or another form of length is no error: it is
+ *   answered with 256 bytes and 9000, like everything else. Where sessions
+ *   end with 15 for no reason that can be seen, look at these bytes first.
  *   length 256, status 9000, and in the output a block to encrypt under
  *   `handle`: 00 02, the pad bytes, 00, and 50 bytes.
  *   accepted: those are KeySetID, DivData, RND1 and RND1 again, where RND1 is
