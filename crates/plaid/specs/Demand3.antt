@@ -68,9 +68,9 @@ module _ (sets : List KeySet) (g : Given) (area : List ℕ) (t : Typed sets g) (
 
   -- at every place: the work sum is that of the steps that the load, the session there and the call give
   pub sums-hold : (xs ys : List Call) (x : Call) (o : Outcome) →
-      getD (run (loadOf sets g area .card) (xs ++ (x ∷ ys))) (length xs) o .answer .sum ≡ workSum (stepsOf (loadOf sets g area .card) (sessionAfter (loadOf sets g area .card) noSession xs) x)
+      getD (run (loadOf sets g area .card) (xs ++ (x ∷ ys))) (length xs) o .sum ≡ workSum (stepsOf (loadOf sets g area .card) (sessionAfter (loadOf sets g area .card) noSession xs) x)
   sums-hold xs ys x o =
-      ap (λ (r : Outcome). r .answer .sum) (place (loadOf sets g area .card) xs ys x o (is-a-load .no-session))
+      ap (λ (r : Outcome). r .sum) (place (loadOf sets g area .card) xs ys x o (is-a-load .no-session))
       ∙ call-sum (loadOf sets g area .card) (sessionAfter (loadOf sets g area .card) noSession xs) x
 
 -- two such lists on two such cards
