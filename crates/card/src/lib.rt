@@ -5,7 +5,6 @@ use initial::Initial;
 use plaid_types::Answer;
 use plaid_types::Card;
 use plaid_types::Outcome;
-use plaid_types::Session;
 ghost use mathlib.Core.Path.{_≡_};
 ghost use Prim.Native.Nat.{_-_, _≤_};
 ghost use lib.ListN.{length};
@@ -62,8 +61,9 @@ fn after_initial(card: Card, r: Initial) -> Outcome
 fn after_final(card: Card, r: Final) -> Outcome
     ensures { λ o. ⌜ o ≡ afterFinal card r ⌝ }
 {
-    let session = Session::none();
-    let next = card.with_session(session);
+    let was = card.session;
+    let closed = was.close();
+    let next = card.with_session(closed);
     Outcome {
         answer: Answer {
             number: 0,

@@ -61,6 +61,18 @@ impl Session {
             rnd1: [0u8; 16],
         }
     }
+
+    // A session closes: nothing of it is left.
+    pub fn close(mut self) -> Session
+        ensures { λ r. ⌜ r ≡ noSession ⌝ }
+    {
+        let id = KeySetId(0);
+        let rnd1 = [0u8; 16];
+        self.opened = false;
+        self.id = id;
+        self.rnd1 = rnd1;
+        self
+    }
 }
 
 #[repr(C)]
