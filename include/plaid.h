@@ -14,7 +14,8 @@
  *                                 has decrypted the block for each listed set
  *   reader        plaid_seal      makes the final command for one mode
  *   card          plaid_command   answers with the mode's record, enciphered
- *   reader        plaid_accept    checks the answer and gives the record
+ *   reader        plaid_accept    checks the answer and deciphers it
+ *   reader        plaid_record    says where the record stands
  *
  * To a stranger a card never refuses. A refused command is answered like an
  * accepted one, with the same length and status 9000, under the shill keys.
@@ -23,7 +24,8 @@
  *
  *   - Each function takes every value of its arguments. It has no error but
  *     its `number`: 0, or one of PLAID_DECLINE_.. below. Where several apply,
- *     the first one in the order written is given.
+ *     the first one in the order written is given. plaid_record declines
+ *     nothing and has no number.
  *   - A pointer is never NULL, also where its length is 0. It points to at
  *     least as many elements as the length says.
  *   - Buffers given to one call do not overlap.
@@ -306,9 +308,8 @@ plaid_loaded plaid_load(const plaid_key_set *sets, size_t set_count,
                         const uint8_t *area, size_t area_len);
 
 /*
- * What a command call hands back beside the card and the output. The counts
- * and the sum are for tests and audits; they stay in the card's side and are
- * not sent.
+ * What a command call answers beside the output. The counts are for tests and
+ * audits; they stay in the card's side and are not sent.
  */
 typedef struct plaid_answer {
     uint8_t number;                     /* 0, or 8 to 10 */
@@ -320,12 +321,17 @@ typedef struct plaid_answer {
     size_t hash_blocks;
     size_t length;                      /* of the answer, in the output */
     uint8_t handle;                     /* RSA key for an initial answer */
-    uint32_t sum;                       /* work sum over those steps */
 } plaid_answer;
 
+/*
+ * What a command call hands back. The work sum is no part of the answer. It is
+ * made over keys and texts, for tests and audits; it stays in the card's side
+ * and is not sent.
+ */
 typedef struct plaid_outcome {
     plaid_answer answer;
-    plaid_card card;
+    uint32_t sum;                       /* work sum over the steps counted */
+    plaid_card card;                    /* replaces the old one */
 } plaid_outcome;
 
 /*
@@ -334,11 +340,11 @@ typedef struct plaid_outcome {
  * In: the card, the command's bytes, 253 fresh bytes (see "What the platform
  * lends"), and an output buffer of at least 256 bytes.
  *
- * Back: the answer and the next card. THE CARD HANDED BACK REPLACES THE OLD
- * ONE, after each call, declined ones too. To use an old value again is to
- * roll the session back: a final command that was answered once would be
- * answered again. After a power cycle or a reset, start from the card that the
- * load returned, which has no session.
+ * Back: the answer, the work sum and the next card. THE CARD HANDED BACK
+ * REPLACES THE OLD ONE, after each call, declined ones too. To use an old value
+ * again is to roll the session back: a final command that was answered once
+ * would be answered again. After a power cycle or a reset, start from the card
+ * that the load returned, which has no session.
  *
  * A command is CLA 00, INS 87 or 86, P1 P2 0000, Lc from 1 to 255, Lc data
  * bytes, Le 00: Lc + 6 bytes in all.
@@ -512,8 +518,8 @@ typedef struct plaid_accepted {
  * In: the answer without its status, 32, 48, 64, 80 or 96 bytes; and a work
  * buffer at least as long.
  *
- * Back: number 0 and the record's length, 1 to 64. The record is the first
- * `length` bytes of the work buffer. Take it out only where number is 0.
+ * Back: number 0 and the record's length, 1 to 64. The record is a part of the
+ * work buffer; plaid_record says which. Take it out only where number is 0.
  *
  * Declines, in the order in which they are tested:
  *   18  response_len is not 32, 48, 64, 80 or 96
@@ -529,6 +535,28 @@ typedef struct plaid_accepted {
 plaid_accepted plaid_accept(plaid_accepting of,
                             const uint8_t *response, size_t response_len,
                             uint8_t *work, size_t work_len);
+
+/* A part of a buffer: `length` bytes from `start` on. */
+typedef struct plaid_part {
+    size_t start;                       /* counted from 0 */
+    size_t length;
+} plaid_part;
+
+/*
+ * The record that Accept gave, as a part of the work buffer.
+ *
+ * In: the work buffer as plaid_accept left it, and what plaid_accept handed
+ * back.
+ *
+ * Back: where the record stands: the first of.length bytes, so start is 0.
+ * After a decline the part is empty. Where of.length is more than work_len,
+ * which plaid_accept never says of that buffer, the part is the whole buffer:
+ * it is never outside.
+ *
+ * Declines: none. Written: nothing.
+ */
+plaid_part plaid_record(const uint8_t *work, size_t work_len,
+                        plaid_accepted of);
 
 #ifdef __cplusplus
 }

@@ -13,14 +13,15 @@ static size_t exchange(void *line, const uint8_t *command, size_t command_len, u
     bench_exchange *x = b->exchanges++ == 0 ? &b->initial : &b->final;
     uint8_t fresh[PLAID_FRESH], others[CARD_ANSWER_MOST];
     plaid_answer told;
+    uint32_t sum;
     memcpy(x->command, command, command_len);
     x->command_len = command_len;
     if (b->fault.damage && command[1] == PLAID_INS_FINAL)
         x->command[command_len - 2] ^= 0x01; /* the last data byte; Le stands behind it */
     if (!platform_fresh(fresh))
         return 0;
-    size_t length = card_answer(&b->card, x->command, command_len, fresh, x->answer, &x->told);
-    size_t other = card_answer(&b->other, x->command, command_len, fresh, others, &told);
+    size_t length = card_answer(&b->card, x->command, command_len, fresh, x->answer, &x->told, &x->sum);
+    size_t other = card_answer(&b->other, x->command, command_len, fresh, others, &told, &sum);
     if (length < 2 || length > answer_room)
         return 0;
     x->answer_len = length - 2;

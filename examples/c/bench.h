@@ -15,6 +15,7 @@ typedef struct {
     uint8_t answer[CARD_ANSWER_MOST];
     size_t answer_len;  /* without the status */
     plaid_answer told;
+    uint32_t sum;
     bool as_other_card; /* the other card sent the same bytes */
 } bench_exchange;
 

@@ -22,8 +22,9 @@ int main(int argc, char **argv)
     long length;
     while ((length = hex_line(stdin, command, sizeof command)) >= 0) {
         plaid_answer told;
+        uint32_t sum;
         size_t given = (size_t)length < sizeof command ? (size_t)length : sizeof command;
-        size_t sent = platform_fresh(fresh) ? card_answer(&card, command, given, fresh, answer, &told) : 0;
+        size_t sent = platform_fresh(fresh) ? card_answer(&card, command, given, fresh, answer, &told, &sum) : 0;
         if (sent == 0) {
             fprintf(stderr, "card: the platform failed\n");
             return 1;

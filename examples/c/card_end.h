@@ -9,9 +9,9 @@
 
 /*
  * Runs a command with fresh bytes of its own, puts the next card in the place of the old one and writes what is to be sent. Returns its
- * length; 0 where the platform failed and nothing is sent. `told` gets the counts, which stay here.
+ * length; 0 where the platform failed and nothing is sent. `told` gets the counts and `sum` the work sum, which stay here.
  */
 size_t card_answer(plaid_card *card, const uint8_t *command, size_t command_len, const uint8_t fresh[PLAID_FRESH],
-                   uint8_t answer[CARD_ANSWER_MOST], plaid_answer *told);
+                   uint8_t answer[CARD_ANSWER_MOST], plaid_answer *told, uint32_t *sum);
 
 #endif

@@ -37,6 +37,6 @@ int main(int argc, char **argv)
         fprintf(stderr, "reader: no record, number %d\n", number);
         return 1;
     }
-    fprintf(stderr, "record: %.*s\n", (int)s.accepted.length, (const char *)s.work);
+    fprintf(stderr, "record: %.*s\n", (int)s.record.length, (const char *)s.work + s.record.start);
     return 0;
 }

@@ -65,6 +65,7 @@ static int final(const reader_plan *plan, reader_session *s)
     memcpy(accepting.keys_hash, s->sealed.keys_hash, PLAID_KEYS_HASH);
     memcpy(accepting.div_data, s->opened.div_data, PLAID_DIV_DATA);
     s->accepted = plaid_accept(accepting, answer, length, s->work, sizeof s->work);
+    s->record = plaid_record(s->work, sizeof s->work, s->accepted);
     return s->accepted.number;
 }
 

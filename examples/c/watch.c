@@ -108,12 +108,13 @@ static void show_final(const bench *b)
 
 static void show_record(const bench *b)
 {
-    size_t length = b->session.accepted.length;
+    const plaid_part *part = &b->session.record;
+    const uint8_t *record = b->session.work + part->start;
     printf("\n4  CARD TO READER: %zu bytes, status %04X\n", b->final.answer_len, b->final.told.status);
     show_rows(b->final.answer, b->final.answer_len);
     printf("    Enciphered under KeysHash. The reader accepts it:\n");
-    printf("    record      %zu bytes: %.*s\n", length, (int)length, (const char *)b->session.work);
-    show_field("DivData", b->session.work + length, PLAID_DIV_DATA, "");
+    printf("    record      %zu bytes: %.*s\n", part->length, (int)part->length, (const char *)record);
+    show_field("DivData", record + part->length, PLAID_DIV_DATA, "");
 }
 
 static void show_count(const char *name, size_t initial, size_t final)
@@ -121,15 +122,16 @@ static void show_count(const char *name, size_t initial, size_t final)
     printf("    %-16s%10zu%10zu\n", name, initial, final);
 }
 
-static void show_counts(const plaid_answer *i, const plaid_answer *f)
+static void show_work(const bench *b)
 {
+    const plaid_answer *i = &b->initial.told, *f = &b->final.told;
     printf("\nTHE CARD'S WORK        initial     final\n");
     show_count("comparisons", i->comparisons, f->comparisons);
     show_count("decipherments", i->decipherments, f->decipherments);
     show_count("encipherments", i->encipherments, f->encipherments);
     show_count("expansions", i->expansions, f->expansions);
     show_count("hash blocks", i->hash_blocks, f->hash_blocks);
-    printf("    %-16s  %08X  %08X   not sent\n", "work sum", (unsigned)i->sum, (unsigned)f->sum);
+    printf("    %-16s  %08X  %08X   not sent\n", "work sum", (unsigned)b->initial.sum, (unsigned)b->final.sum);
 }
 
 static bool watch_good(bench *b)
@@ -142,7 +144,7 @@ static bool watch_good(bench *b)
     show_opened(b);
     show_final(b);
     show_record(b);
-    show_counts(&b->initial.told, &b->final.told);
+    show_work(b);
     return true;
 }
 

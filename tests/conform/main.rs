@@ -148,7 +148,8 @@ fn accept(line: &str) -> Result<String, String> {
     let r = run_accept(of, &response, &mut work);
     let end = response.len().min(work.len());
     let kept = if work[end..] == before[end..] { "" } else { " kept=no" };
-    Ok(format!("number={} record={} work={}{kept}", r.number, hex(&work[..r.length.min(work.len())]), hex(&work)))
+    let record = work.get(run_record(&work, r)).map_or("outside".to_string(), hex);
+    Ok(format!("number={} record={record} work={}{kept}", r.number, hex(&work)))
 }
 
 fn call(line: &str, card: &mut Option<Card>) -> Result<String, String> {
@@ -166,7 +167,7 @@ fn call(line: &str, card: &mut Option<Card>) -> Result<String, String> {
     let after = if session.opened { format!("{}:{}", session.id, hex(&session.rnd1)) } else { "-".to_string() };
     let mut s = format!(
         "number={} status={} comparisons={} decipherments={} encipherments={} expansions={} hash_blocks={} length={} handle={} sum={} answer={} session={}",
-        a.number, a.status, a.comparisons, a.decipherments, a.encipherments, a.expansions, a.hash_blocks, a.length, a.handle, a.sum, hex(&out[..end]), after
+        a.number, a.status, a.comparisons, a.decipherments, a.encipherments, a.expansions, a.hash_blocks, a.length, a.handle, r.sum, hex(&out[..end]), after
     );
     if out[end..] != fill[end..] {
         s.push_str(" kept=no");

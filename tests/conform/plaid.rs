@@ -1,5 +1,7 @@
 //! The library's structs and functions, declared again for Rust. Nothing checks these declarations against the Rattle source but the runs.
 
+use std::ops::Range;
+
 #[repr(C)]
 #[derive(Clone, Copy)]
 pub struct KeySet {
@@ -67,13 +69,13 @@ pub struct Answer {
     pub hash_blocks: usize,
     pub length: usize,
     pub handle: u8,
-    pub sum: u32,
 }
 
 #[repr(C)]
 #[derive(Clone, Copy)]
 pub struct Outcome {
     pub answer: Answer,
+    pub sum: u32,
     pub card: Card,
 }
 
@@ -150,6 +152,13 @@ pub struct Accepted {
     pub length: usize,
 }
 
+#[repr(C)]
+#[derive(Clone, Copy)]
+pub struct Part {
+    pub start: usize,
+    pub length: usize,
+}
+
 #[link(name = "plaid", kind = "static")]
 unsafe extern "C" {
     fn plaid_load(sets: *const KeySet, set_count: usize, given: Given, area: *const u8, area_len: usize) -> Loaded;
@@ -158,6 +167,7 @@ unsafe extern "C" {
     fn plaid_open(of: Ids, blocks: *const u8, blocks_len: usize) -> Opened;
     fn plaid_seal(of: Sealing, payload: *const u8, payload_len: usize, out: *mut u8, out_len: usize) -> Sealed;
     fn plaid_accept(of: Accepting, response: *const u8, response_len: usize, work: *mut u8, work_len: usize) -> Accepted;
+    fn plaid_record(work: *const u8, work_len: usize, of: Accepted) -> Part;
 }
 
 /// A load of any number of key sets and modes: of the modes the library looks at the count and at no more than the first sixteen.
@@ -202,4 +212,10 @@ pub fn run_seal(of: Sealing, payload: &[u8], out: &mut [u8]) -> Sealed {
 
 pub fn run_accept(of: Accepting, response: &[u8], work: &mut [u8]) -> Accepted {
     unsafe { plaid_accept(of, response.as_ptr(), response.len(), work.as_mut_ptr(), work.len()) }
+}
+
+/// Where in the work buffer the record stands.
+pub fn run_record(work: &[u8], of: Accepted) -> Range<usize> {
+    let Part { start, length } = unsafe { plaid_record(work.as_ptr(), work.len(), of) };
+    start..start.saturating_add(length)
 }

@@ -89,6 +89,7 @@ typedef struct {
 } registers;
 typedef registers raw_list(plaid_ids, uint8_t *, size_t);
 typedef registers raw_accept(plaid_accepting, const uint8_t *, size_t, uint8_t *, size_t);
+typedef registers raw_record(const uint8_t *, size_t, plaid_accepted);
 
 /* volatile, or a compiler sees the other type and makes no call. */
 #define AS(type, function) ((type *)(void (*)(void))(function))
@@ -98,6 +99,7 @@ static raw_open *volatile open_at = AS(raw_open, plaid_open);
 static raw_seal *volatile seal_at = AS(raw_seal, plaid_seal);
 static raw_list *volatile list_words = AS(raw_list, plaid_list);
 static raw_accept *volatile accept_words = AS(raw_accept, plaid_accept);
+static raw_record *volatile record_words = AS(raw_record, plaid_record);
 
 /*
  * Load
@@ -368,7 +370,7 @@ static void initial_accepted(void)
         CHECK(counts_are(&o[i].answer, 8, 0, 0, 0, 0));
         CHECK(o[i].answer.length == PLAID_ANSWER_INITIAL);
         CHECK(o[i].answer.handle == l.sets[5].handle);
-        CHECK(o[i].answer.sum == sum_of_place(&l, id.value));
+        CHECK(o[i].sum == sum_of_place(&l, id.value));
         check_card(&o[i].card, &l);
         CHECK(o[i].card.session.opened && o[i].card.session.id.value == id.value);
         CHECK(memcmp(o[i].card.session.rnd1, rnd1, PLAID_RND) == 0);
@@ -393,7 +395,7 @@ static void check_declined(plaid_card card, call_case *c, unsigned number, unsig
 {
     memset(c->out, CANARY, sizeof c->out);
     plaid_outcome o = call(card, c);
-    bool zeros = counts_are(&o.answer, 0, 0, 0, 0, 0) && o.answer.length == 0 && o.answer.handle == 0 && o.answer.sum == 0;
+    bool zeros = counts_are(&o.answer, 0, 0, 0, 0, 0) && o.answer.length == 0 && o.answer.handle == 0 && o.sum == 0;
     check(o.answer.number == number && o.answer.status == status, "number and status of a declined command", line);
     check(zeros, "zeros of a declined command", line);
     check(o.card.session.opened && o.card.session.id.value == card.session.id.value, "session after a declined command", line);
@@ -657,6 +659,16 @@ static plaid_accepted accept(const uint8_t *div_data, const uint8_t *response, s
     return a;
 }
 
+/* The record's place with the result's two registers as bytes of the struct. */
+static plaid_part record_part(const uint8_t *work, size_t work_len, plaid_accepted of)
+{
+    plaid_part p;
+    registers r = record_words(work, work_len, of);
+    CHECK(sizeof p == sizeof r);
+    memcpy(&p, &r, sizeof p);
+    return p;
+}
+
 /* The final answer of the card under the longest payload, in c's output; distinct counts. */
 static plaid_outcome final_answer(const load_case *l, call_case *c)
 {
@@ -668,7 +680,7 @@ static plaid_outcome final_answer(const load_case *l, call_case *c)
     *c = call_of(command, s.length);
     c->out_len = sizeof c->out;
     raw_call(card, c, o);
-    CHECK(memcmp(&o[0].answer.sum, &o[1].answer.sum, sizeof o[0].answer.sum) == 0);
+    CHECK(o[0].sum == o[1].sum);
     return o[0];
 }
 
@@ -680,14 +692,16 @@ static void session(void)
     uint8_t work[PLAID_RESPONSE_MOST];
     size_t record = l.given.modes[3].len;
     CHECK(o.answer.number == PLAID_DONE && o.answer.status == PLAID_ANSWER_OK && o.answer.handle == 0);
-    CHECK(counts_are(&o.answer, 16, 15, 6, 3, 1) && o.answer.length == 80 && o.answer.sum != 0);
+    CHECK(counts_are(&o.answer, 16, 15, 6, 3, 1) && o.answer.length == 80 && o.sum != 0);
     CHECK(!o.card.session.opened);
     check_card(&o.card, &l);
     CHECK(all(c.out + 80, sizeof c.out - 80, CANARY));
     memset(work, CANARY, sizeof work);
     plaid_accepted a = accept(l.given.div_data, c.out, 80, work, sizeof work);
     CHECK(a.number == PLAID_DONE && a.length == record);
-    CHECK(memcmp(work, l.area + l.given.modes[3].start, record) == 0);
+    plaid_part p = record_part(work, sizeof work, a);
+    CHECK(p.start == 0 && p.length == record);
+    CHECK(memcmp(work + p.start, l.area + l.given.modes[3].start, p.length) == 0);
     CHECK(memcmp(work + record, l.given.div_data, PLAID_DIV_DATA) == 0 && work[record + PLAID_DIV_DATA] == 0x80);
     CHECK(all(work + 80, sizeof work - 80, CANARY));
 }
@@ -704,6 +718,7 @@ static void accept_declined(void)
     CHECK(all(work, sizeof work, CANARY));
     plaid_accepted a = accept(l.given.shill_key, c.out, 80, work, 80);
     CHECK(a.number == PLAID_DECLINE_AUTHENTICATION && a.length == 0);
+    CHECK(record_part(work, sizeof work, a).start == 0 && record_part(work, sizeof work, a).length == 0);
     CHECK(all(work, 80, 0) && all(work + 80, sizeof work - 80, CANARY));
     CHECK(accept(l.given.shill_key, c.out, PLAID_RESPONSE_LEAST, work, sizeof work).number == PLAID_DECLINE_AUTHENTICATION);
     CHECK(accept(l.given.shill_key, c.out, PLAID_RESPONSE_MOST, work, sizeof work).number == PLAID_DECLINE_AUTHENTICATION);
@@ -711,6 +726,27 @@ static void accept_declined(void)
         bool known = n % 16 == 0 && n >= PLAID_RESPONSE_LEAST && n <= PLAID_RESPONSE_MOST;
         unsigned number = accept(l.given.shill_key, c.out, n, work, sizeof work).number;
         CHECK(number == (known ? PLAID_DECLINE_AUTHENTICATION : PLAID_DECLINE_RESPONSE));
+    }
+}
+
+/* The front of a work buffer, of any length that an answer may say, and never outside. Nothing is written. */
+static bool record_is(size_t room, size_t said, size_t length)
+{
+    uint8_t work[PLAID_RESPONSE_MOST];
+    plaid_accepted of = {.number = PLAID_DONE, .length = said};
+    memset(work, CANARY, sizeof work);
+    plaid_part p = plaid_record(work, room, of);
+    return p.start == 0 && p.length == length && all(work, sizeof work, CANARY);
+}
+
+static void record_parts(void)
+{
+    for (size_t room = 0; room <= PLAID_RESPONSE_MOST; room += 16) {
+        CHECK(record_is(room, 0, 0));
+        CHECK(record_is(room, room / 2, room / 2));
+        CHECK(record_is(room, room, room));
+        CHECK(record_is(room, room + 1, room));
+        CHECK(record_is(room, SIZE_MAX, room));
     }
 }
 
@@ -730,6 +766,7 @@ int main(void)
     seal_declined();
     session();
     accept_declined();
+    record_parts();
     printf("%u passed, %u failed\n", passed, failed);
     return failed > 0;
 }

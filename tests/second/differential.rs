@@ -96,8 +96,8 @@ impl<S: Side> Other<'_, S> {
 
 /// Whether a session to which the promise applies ended without the chosen record.
 fn broken_promise(case: &Case, last: &Seen, outcomes: &mut Outcomes) -> bool {
-    let returned = match last.reply {
-        Reply::Accept { number: 0, length } => last.lent().get(..length),
+    let returned = match &last.reply {
+        Reply::Accept { number: 0, part, .. } => last.lent().get(part.clone()),
         _ => None,
     };
     match &case.promised {

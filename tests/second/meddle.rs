@@ -53,7 +53,7 @@ macro_rules! change {
     };
 }
 
-pub const CHANGES: [(&str, Change); 44] = [
+pub const CHANGES: [(&str, Change); 46] = [
     ("the first byte written", |_, lent| lent.iter_mut().take(1).for_each(Meddle::meddle)),
     ("the last byte lent", |_, lent| lent.iter_mut().rev().take(1).for_each(Meddle::meddle)),
     change!(Load { number, .. } => number),
@@ -98,4 +98,6 @@ pub const CHANGES: [(&str, Change); 44] = [
     change!(Seal { keys_hash, .. } => keys_hash[15]),
     change!(Accept { number, .. } => number),
     change!(Accept { length, .. } => length),
+    change!(Accept { part, .. } => part.start),
+    change!(Accept { part, .. } => part.end),
 ];

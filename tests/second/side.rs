@@ -1,5 +1,7 @@
 //! The two sides that are compared: the second implementation and the proved library, each with the card of its last load.
 
+use std::ops::Range;
+
 use crate::aes::Block;
 use crate::card::{self, Card, Decline, Given, KeySet, Mode, Session};
 use crate::fault::Fault;
@@ -20,7 +22,7 @@ pub enum Reply {
     List { number: u8, length: usize },
     Open { number: u8, place: usize, id: u16, div_data: Block, rnd1: Block },
     Seal { number: u8, length: usize, keys_hash: Block },
-    Accept { number: u8, length: usize },
+    Accept { number: u8, length: usize, part: Range<usize> },
     /// A command without a loaded card before it.
     NoCard,
 }
@@ -151,7 +153,8 @@ impl Side for Second {
             Line::Seal { of, payload, .. } => self.seal(of, payload, lent),
             Line::Accept { keys_hash, div_data, response, .. } => {
                 let (number, length) = self.decided(reader::accept(keys_hash, div_data, response, lent), "accepted");
-                Reply::Accept { number, length: length.unwrap_or(0) }
+                let length = length.unwrap_or(0);
+                Reply::Accept { number, length, part: 0..length }
             }
         }
     }
@@ -177,9 +180,9 @@ impl Library {
 
     fn command(&mut self, command: &[u8], fresh: &[u8], lent: &mut [u8]) -> Reply {
         let Some(held) = self.card else { return Reply::NoCard };
-        let plaid::Outcome { answer, card } = plaid::run_command(held, command, fresh, lent);
+        let plaid::Outcome { answer, sum, card } = plaid::run_command(held, command, fresh, lent);
         self.card = Some(card);
-        let plaid::Answer { comparisons, decipherments, encipherments, expansions, hash_blocks, sum, .. } = answer;
+        let plaid::Answer { comparisons, decipherments, encipherments, expansions, hash_blocks, .. } = answer;
         let work = Work { comparisons, decipherments, encipherments, expansions, hash_blocks, sum };
         let plaid::Answer { number, status, length, handle, .. } = answer;
         Reply::Call { number, status, work, length, handle, card: Image(card) }
@@ -209,8 +212,9 @@ impl Side for Library {
             Line::Seal { of, payload, .. } => Library::seal(of, payload, lent),
             Line::Accept { keys_hash, div_data, response, .. } => {
                 let accepting = plaid::Accepting { keys_hash: *keys_hash, div_data: *div_data };
-                let plaid::Accepted { number, length } = plaid::run_accept(accepting, response, lent);
-                Reply::Accept { number, length }
+                let accepted = plaid::run_accept(accepting, response, lent);
+                let plaid::Accepted { number, length } = accepted;
+                Reply::Accept { number, length, part: plaid::run_record(lent, accepted) }
             }
         }
     }

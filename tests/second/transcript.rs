@@ -85,7 +85,10 @@ pub fn result(seen: &Seen) -> String {
             let hash = if *number == 0 { hex(keys_hash) } else { "-".to_string() };
             format!("number={number} length={length} keyshash={hash} command={}", shown(*length))
         }
-        Reply::Accept { number, length } => format!("number={number} record={} work={}", shown(*length), hex(seen.lent())),
+        Reply::Accept { number, part, .. } => {
+            let record = seen.lent().get(part.clone()).map_or("outside".to_string(), hex);
+            format!("number={number} record={record} work={}", hex(seen.lent()))
+        }
         Reply::NoCard => "error: a call with no loaded card before it".to_string(),
     }
 }

@@ -19,8 +19,8 @@ afterInitial c r =
             «hash_blocks» = 0;
             length = r .length;
             handle = r .handle;
-            sum = r .sum;
           };
+      sum = r .sum;
       card = withSession c (r .session);
     }
 
@@ -38,7 +38,7 @@ afterFinal c r =
             «hash_blocks» = r .«hash_blocks»;
             length = r .length;
             handle = 0;
-            sum = r .sum;
           };
+      sum = r .sum;
       card = withSession c noSession;
     }

@@ -19,7 +19,7 @@ use Rattle.plaid_types.specs.declared.Outcome.{Outcome}
 unfoldable pub replyTo : Card → List ℕ → List ℕ → Reply
 replyTo c cmd fresh = cond (eqb (insOf (frameOf cmd)) initialIns) (initialReply c (dataOf cmd) fresh) (finalReply c (dataOf cmd) fresh)
 
--- "Each [count] is the number of steps of its kind"; the sum is over the same steps; "Status: 9000"; "Every command answer but 8, 9 and 10 has number 0."
+-- "Each [count] is the number of steps of its kind"; "Status: 9000"; "Every command answer but 8, 9 and 10 has number 0."
 abbrev pub told : Reply → Answer
 told r =
     record {
@@ -32,10 +32,9 @@ told r =
       «hash_blocks» = counted hashBlock (r .steps);
       length = length (r .bytes);
       handle = r .handle;
-      sum = workSum (r .steps);
     }
 
--- a decline, "with .. counts, length and key handle 0"; it "makes no steps", and "without steps the sum is 0"
+-- a decline, "with .. counts, length and key handle 0"
 abbrev pub declined : Verdict → Answer
 declined v =
     record {
@@ -48,19 +47,24 @@ declined v =
       «hash_blocks» = 0;
       length = 0;
       handle = 0;
-      sum = 0;
     }
 
 -- the verdict on a call, by its frame and its length
 abbrev pub verdictOn : List ℕ → List ℕ → ℕ → Verdict
 verdictOn cmd fresh room = verdict (length cmd) (frameOf cmd) fresh room
 
--- "a declined command keeps [the session]"
+-- a command that is not declined: "each command call also hands back a sum over its steps", which "is no part of the answer"
+abbrev pub done : Card → Reply → Outcome
+done c r = record { answer = told r; sum = workSum (r .steps); card = withSession c (r .session) }
+
+-- "a declined command keeps [the session]"; it "makes no steps", and "Without steps the sum is 0."
+abbrev pub undone : Card → Verdict → Outcome
+undone c v = record { answer = declined v; sum = 0; card = c }
+
+-- "A command is declined by 8, 9, 10 or a fault of its frame"
 unfoldable pub outcome : Card → List ℕ → List ℕ → ℕ → Outcome
 outcome c cmd fresh room =
-    cond (eqb (verdictOn cmd fresh room .status) 0x9000)
-    (record { answer = told (replyTo c cmd fresh); card = withSession c (replyTo c cmd fresh .session) })
-    (record { answer = declined (verdictOn cmd fresh room); card = c })
+    cond (eqb (verdictOn cmd fresh room .status) 0x9000) (done c (replyTo c cmd fresh)) (undone c (verdictOn cmd fresh room))
 
 -- "The answer bytes are the first 256 or 16B of the output, none after a decline."
 unfoldable pub answerBytes : Card → List ℕ → List ℕ → ℕ → List ℕ

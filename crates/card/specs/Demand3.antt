@@ -24,7 +24,7 @@ use Rattle.plaid_types.specs.Cards.{noSession, withSession, Reply}
 use Rattle.plaid_types.specs.declared.Session.{Session}
 use Rattle.plaid_types.specs.declared.Card.{Card}
 use Rattle.plaid_types.specs.declared.Outcome.{Outcome}
-use Rattle.card.specs.Command.{replyTo, told, declined, verdictOn, outcome, answerBytes}
+use Rattle.card.specs.Command.{replyTo, told, done, undone, verdictOn, outcome, answerBytes}
 use Rattle.card.specs.Lists.{Call, outcomeOf, bytesOf, run, cardAfter, isInitial, nextSession, sessionAfter, stepsOf, Shape, shapeOf, initialShape, finalShape, declineShape, formulas, formulasOf, Alike, AllAlike, none, more, Agree, accepted, SameAnswer, Indistinct}
 
 -- what the theorems ask of a card: what a load and every call leave true of it
@@ -80,7 +80,7 @@ module _ (c : Card) (cmd fresh : List ℕ) (room : ℕ) where
   ins-shape false s lf ld = final-shape c cmd fresh s ld
 
   status-shape : (t : Bool) → eqb (verdictOn cmd fresh room .status) 0x9000 ≡ t → Sound c →
-      shapeOf (cond {A = Outcome} t (record { answer = told (replyTo c cmd fresh); card = withSession c (replyTo c cmd fresh .session) }) (record { answer = declined (verdictOn cmd fresh room); card = c }) .answer)
+      shapeOf (cond {A = Outcome} t (done c (replyTo c cmd fresh)) (undone c (verdictOn cmd fresh room)) .answer)
       ≡ cond t (cond (eqb (insOf (frameOf cmd)) initialIns) (initialShape (lcOf (frameOf cmd))) (finalShape (c .«reply_size») (lcOf (frameOf cmd)))) (declineShape (verdictOn cmd fresh room))
   unfolding replyTo
   status-shape true e s =
@@ -93,7 +93,7 @@ module _ (c : Card) (cmd fresh : List ℕ) (room : ℕ) where
   one-shape s = status-shape (eqb (verdictOn cmd fresh room .status) 0x9000) refl s
 
   card-cases : (t : Bool) →
-      cond {A = Outcome} t (record { answer = told (replyTo c cmd fresh); card = withSession c (replyTo c cmd fresh .session) }) (record { answer = declined (verdictOn cmd fresh room); card = c }) .card
+      cond {A = Outcome} t (done c (replyTo c cmd fresh)) (undone c (verdictOn cmd fresh room)) .card
       ≡ withSession c (cond t (replyTo c cmd fresh .session) (c .session))
   card-cases true = refl
   card-cases false = refl
@@ -162,14 +162,13 @@ module _ (c : Card) (s : Session) (x : Call) where
       ∙ ap (withSession c) (next-cases (eqb (verdictOn (x .command) (x .fresh) (x .room) .status) 0x9000))
 
   sum-cases : (t : Bool) →
-      cond {A = Outcome} t (record { answer = told (replyTo (withSession c s) (x .command) (x .fresh)); card = withSession (withSession c s) (replyTo (withSession c s) (x .command) (x .fresh) .session) })
-      (record { answer = declined (verdictOn (x .command) (x .fresh) (x .room)); card = withSession c s }) .answer .sum
+      cond {A = Outcome} t (done (withSession c s) (replyTo (withSession c s) (x .command) (x .fresh))) (undone (withSession c s) (verdictOn (x .command) (x .fresh) (x .room))) .sum
       ≡ workSum (cond (not t) [] (replyTo (withSession c s) (x .command) (x .fresh) .steps))
   sum-cases true = refl
   sum-cases false = refl
 
   -- DEMAND 3, the work sum: that of the steps that load, session and call give
-  pub call-sum : outcomeOf (withSession c s) x .answer .sum ≡ workSum (stepsOf c s x)
+  pub call-sum : outcomeOf (withSession c s) x .sum ≡ workSum (stepsOf c s x)
   unfolding outcome stepsOf
   call-sum = sum-cases (eqb (verdictOn (x .command) (x .fresh) (x .room) .status) 0x9000)
 
@@ -241,7 +240,7 @@ ins-refused c d fresh false e = (final-refused c d fresh e, refl)
 
 -- the answer bytes and the handle of a call that is not accepted
 handle-cases : (c : Card) (r : Reply) (v : Verdict) (t : Bool) →
-    cond {A = Outcome} t (record { answer = told r; card = withSession c (r .session) }) (record { answer = declined v; card = c }) .answer .handle ≡ cond t (r .handle) 0
+    cond {A = Outcome} t (done c r) (undone c v) .answer .handle ≡ cond t (r .handle) 0
 handle-cases c r v true = refl
 handle-cases c r v false = refl
 

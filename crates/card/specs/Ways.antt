@@ -19,17 +19,16 @@ use Rattle.initial.specs.declared.Initial.{Initial}
 use Rattle.final_command.specs.Final.{finalReply}
 use Rattle.final_command.specs.Told.{toldFinal}
 use Rattle.final_command.specs.declared.Final.{Final}
-use Rattle.plaid_types.specs.Cards.{withSession}
 use Rattle.plaid_types.specs.declared.Card.{Card}
 use Rattle.plaid_types.specs.declared.Outcome.{Outcome}
-use Rattle.card.specs.Command.{replyTo, told, declined, verdictOn, outcome, answerBytes}
+use Rattle.card.specs.Command.{replyTo, done, undone, verdictOn, outcome, answerBytes}
 use Rattle.card.specs.After.{afterInitial, afterFinal}
 
 module _ (c : Card) (cmd fresh o : List ℕ) (v : Verdict) (q : v ≡ verdictOn cmd fresh (length o)) where
   status-is : verdictOn cmd fresh (length o) .status ≡ v .status
   status-is = ap (λ (x : Verdict). x .status) (sym q)
 
-  pub by-decline : (r : Outcome) → (v .status ≡ 0x9000 → ⊥) → r ≡ record { answer = declined v; card = c } →
+  pub by-decline : (r : Outcome) → (v .status ≡ 0x9000 → ⊥) → r ≡ undone c v →
       (r ≡ outcome c cmd fresh (length o)) × (o ≡ over o 0 (answerBytes c cmd fresh (length o)))
   unfolding outcome answerBytes
   by-decline r n e =
@@ -52,7 +51,7 @@ module _ (c : Card) (cmd fresh o : List ℕ) (v : Verdict) (q : v ≡ verdictOn 
         rw (passes s, i, ← qd) qe,
       )
 
-  final-told : (d : List ℕ) → _≡_ {A = Outcome} (afterFinal c (toldFinal (finalReply c d fresh))) (record { answer = told (finalReply c d fresh); card = withSession c (finalReply c d fresh .session) })
+  final-told : (d : List ℕ) → _≡_ {A = Outcome} (afterFinal c (toldFinal (finalReply c d fresh))) (done c (finalReply c d fresh))
   unfolding finalReply
   final-told d = refl
 

@@ -5,18 +5,17 @@ use initial::Initial;
 use plaid_types::Answer;
 use plaid_types::Card;
 use plaid_types::Outcome;
-use plaid_types::Session;
 ghost use mathlib.Core.Path.{_≡_};
 ghost use Prim.Native.Nat.{_-_, _≤_};
 ghost use lib.ListN.{length};
 ghost use Rattle.octets.specs.Lists.{over};
 ghost use Rattle.frame.specs.Frame.{dataOf};
-ghost use Rattle.card.specs.Command.{declined, outcome, answerBytes};
+ghost use Rattle.card.specs.Command.{undone, outcome, answerBytes};
 ghost use Rattle.card.specs.After.{afterInitial, afterFinal};
 
 // A decline: no steps, and the card as it was.
 fn decline(card: Card, v: Verdict) -> Outcome
-    ensures { λ r. ⌜ r ≡ record { answer = declined v; card = card } ⌝ }
+    ensures { λ r. ⌜ r ≡ undone card v ⌝ }
 {
     Outcome {
         answer: Answer {
@@ -29,8 +28,8 @@ fn decline(card: Card, v: Verdict) -> Outcome
             hash_blocks: 0,
             length: 0,
             handle: 0,
-            sum: 0,
         },
+        sum: 0,
         card: card,
     }
 }
@@ -52,8 +51,8 @@ fn after_initial(card: Card, r: Initial) -> Outcome
             hash_blocks: 0,
             length: r.length,
             handle: r.handle,
-            sum: r.sum,
         },
+        sum: r.sum,
         card: next,
     }
 }
@@ -62,8 +61,9 @@ fn after_initial(card: Card, r: Initial) -> Outcome
 fn after_final(card: Card, r: Final) -> Outcome
     ensures { λ o. ⌜ o ≡ afterFinal card r ⌝ }
 {
-    let session = Session::none();
-    let next = card.with_session(session);
+    let was = card.session;
+    let closed = was.close();
+    let next = card.with_session(closed);
     Outcome {
         answer: Answer {
             number: 0,
@@ -75,8 +75,8 @@ fn after_final(card: Card, r: Final) -> Outcome
             hash_blocks: r.hash_blocks,
             length: r.length,
             handle: 0,
-            sum: r.sum,
         },
+        sum: r.sum,
         card: next,
     }
 }

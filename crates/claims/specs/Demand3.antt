@@ -23,7 +23,7 @@ pub record Demand3 (l : Load) : Type 0 where
   -- and the call give (o stands for what a list of outcomes has past its end)
   pub sums :
       (xs ys : List Call) (x : Call) (o : Outcome)
-      → getD (run (cardOf l) (xs ++ (x ∷ ys))) (length xs) o .answer .sum ≡ workSum (stepsOf (cardOf l) (sessionAfter (cardOf l) noSession xs) x)
+      → getD (run (cardOf l) (xs ++ (x ∷ ys))) (length xs) o .sum ≡ workSum (stepsOf (cardOf l) (sessionAfter (cardOf l) noSession xs) x)
   -- "two such lists on two such cards": of another load m, where the cards agree in shill keys and reply size and the lists, place by place, in frame,
   -- length, fresh bytes and output size. Number, status, counts and length are alike at every place
   pub alike : (m : Load) → Agree (cardOf l) (cardOf m) → {xs ys : List Call} → AllAlike xs ys → shapes l xs ≡ shapes m ys
@@ -36,7 +36,7 @@ demand-3 l =
     record {
       formulas = λ xs. list-formulas xs (cardOf l) (sound l);
       sums =
-          λ xs ys x o. ap (λ (r : Outcome). r .answer .sum) (place (cardOf l) xs ys x o (is-a-load l .no-session))
+          λ xs ys x o. ap (λ (r : Outcome). r .sum) (place (cardOf l) xs ys x o (is-a-load l .no-session))
           ∙ call-sum (cardOf l) (sessionAfter (cardOf l) noSession xs) x;
       alike = λ m g a. lists-alike (cardOf l) (cardOf m) (sound l) (sound m) g a;
       indistinct = λ m g a. lists-indistinct (cardOf l) (cardOf m) g a;

@@ -19,7 +19,7 @@ use Rattle.frame.specs.Frame.{frameOf, whole, statusOf, dataOf}
 use Rattle.frame.specs.Declines.{padBytes, noZero, verdict}
 use Rattle.load.specs.Load.{refusal, modesRefusal, loadedCard, loaded, filled}
 use Rattle.load.specs.Laws.{pastSet}
-use Rattle.card.specs.Command.{replyTo, told, declined, verdictOn, outcome, answerBytes}
+use Rattle.card.specs.Command.{replyTo, done, undone, verdictOn, outcome, answerBytes}
 use Rattle.card.specs.Lists.{Call, cardAfter, Agree, none, more}
 use Rattle.reader_list.specs.List.{listNumber, listed, listOutput, listCommand}
 use Rattle.list.specs.Ber.{lengthAt, entryAt, head, walked}
@@ -42,7 +42,7 @@ module _ (c : Card) (cmd fresh : List ℕ) (room : ℕ) (lf : length fresh ≡ 2
   unfolding verdict
   verdict-is = rw (eq-eqb (length fresh) 253 lf, nz, le-ltb room 256 h)
 
-  by : (t : Bool) → cond {A = Outcome} t (record { answer = told (replyTo c cmd fresh); card = withSession c (replyTo c cmd fresh .session) }) (record { answer = declined (verdictOn cmd fresh room); card = c }) .answer .number ≡ 0
+  by : (t : Bool) → cond t (done c (replyTo c cmd fresh)) (undone c (verdictOn cmd fresh room)) .answer .number ≡ 0
   by true = refl
   by false = rw verdict-is
 

@@ -156,11 +156,13 @@ pub fn run(card: Card, d: &[u8], fresh: &[u8], out: &mut [u8]) -> Initial
         };
     }
     octets::copy_at(out, 206, first_fifty(fresh));
+    let was = card.session;
+    let closed = was.close();
     Initial {
         handle: card.shill_handle,
         comparisons: f.count,
         length: Answer::INITIAL,
         sum: f.sum,
-        session: Session::none(),
+        session: closed,
     }
 }

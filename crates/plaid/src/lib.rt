@@ -20,7 +20,7 @@ ghost use Rattle.reader_open.specs.Open.{opened};
 ghost use Rattle.reader_seal.specs.Seal.{sealedOf, sealOutput};
 ghost use Rattle.reader_accept.specs.Accept.{acceptedOf, workAfter};
 ghost use Rattle.load.specs.Load.{loaded};
-ghost use Rattle.plaid.specs.Interface.{blankSet, loadOf};
+ghost use Rattle.plaid.specs.Interface.{blankSet, loadOf, recordAt};
 
 // What a load is given beside the key sets and the record area. What stands past the count is not looked at.
 #[repr(C)]
@@ -164,7 +164,6 @@ pub struct Accepting {
     pub div_data: [u8; 16],
 }
 
-// The record is the first so many bytes of the work buffer as the answer's length says.
 #[no_mangle]
 pub extern "C" fn plaid_accept(of: Accepting, response: &[u8], work: &mut [u8]) -> Accepted
     ensures told { λ r. ⌜ r ≡ acceptedOf (of .«keys_hash») (of .«div_data») (now (response .entry)) (length (now (work .entry))) ⌝ }
@@ -173,4 +172,23 @@ pub extern "C" fn plaid_accept(of: Accepting, response: &[u8], work: &mut [u8]) 
     let keys_hash = of.keys_hash;
     let div_data = of.div_data;
     reader_accept::accept_in(keys_hash, div_data, response, work)
+}
+
+// A part of a buffer: its start, counted from 0, and its length.
+#[repr(C)]
+pub struct Part {
+    pub start: usize,
+    pub length: usize,
+}
+
+// The record, a part of the work buffer that Accept left. An exported function returns no reference, so it says where the part stands.
+#[no_mangle]
+pub extern "C" fn plaid_record(work: &[u8], of: Accepted) -> Part
+    ensures { λ r. ⌜ r ≡ recordAt (now (work .entry)) of ⌝ }
+{
+    let record = reader_accept::record_of(work, of);
+    Part {
+        start: 0,
+        length: record.len(),
+    }
 }

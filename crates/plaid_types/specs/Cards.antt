@@ -35,7 +35,7 @@ withSession c s =
     }
 
 -- what a command that is not declined means: the key handle, the answer bytes, the steps in order, and the session afterwards.
--- Counts, length and work sum all come from it (`told` of the crate `card`)
+-- Counts, length and work sum all come from it (`told` and `done` of the crate `card`)
 pub record Reply : Type 0 where
   pub handle : ℕ
   pub bytes : List ℕ

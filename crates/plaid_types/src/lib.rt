@@ -61,6 +61,18 @@ impl Session {
             rnd1: [0u8; 16],
         }
     }
+
+    // A session closes: nothing of it is left.
+    pub fn close(mut self) -> Session
+        ensures { λ r. ⌜ r ≡ noSession ⌝ }
+    {
+        let id = KeySetId(0);
+        let rnd1 = [0u8; 16];
+        self.opened = false;
+        self.id = id;
+        self.rnd1 = rnd1;
+        self
+    }
 }
 
 #[repr(C)]
@@ -93,7 +105,7 @@ impl Card {
     }
 }
 
-// What a command call hands back beside the next card and the output bytes.
+// What a command call answers beside the output bytes.
 #[repr(C)]
 pub struct Answer {
     pub number: u8,
@@ -105,7 +117,6 @@ pub struct Answer {
     pub hash_blocks: usize,
     pub length: usize,
     pub handle: u8,
-    pub sum: u32,
 }
 
 impl Answer {
@@ -114,8 +125,10 @@ impl Answer {
     pub const OK: u16 = 0x9000;
 }
 
+// What a command call hands back. The work sum stands beside the answer, so that nobody who sends an answer sends it along.
 #[repr(C)]
 pub struct Outcome {
     pub answer: Answer,
+    pub sum: u32,
     pub card: Card,
 }

@@ -22,7 +22,7 @@ use Rattle.plaid_types.specs.declared.Outcome.{Outcome}
 use Rattle.load.specs.Laws.{Stocked, setAt}
 use Rattle.initial.specs.Initial.{str1, blockOf}
 use Rattle.final_command.specs.Final.{keyOf}
-use Rattle.card.specs.Command.{replyTo, told, declined, verdictOn, outcome, answerBytes}
+use Rattle.card.specs.Command.{replyTo, done, undone, verdictOn, outcome, answerBytes}
 use Rattle.reader_open.specs.Open.{textOf, idOf, divOf, rnd1Of, rnd1Copy, agrees, opensAs, winner}
 use Rattle.reader_open.specs.Laws.{opensEntry, Winner, won, lost, Encrypted, form-formed, form-text}
 use Rattle.session_initial.specs.Parts.{part-after, part-last}
@@ -43,7 +43,7 @@ verdict-passes n f fresh room e z = passes-by (statusOf n f) (eqb (length fresh)
 
 module _ (c : Card) (cmd fresh : List ℕ) (room : ℕ) (right : statusOf (length cmd) (frameOf cmd) ≡ 0x9000) where
   ok-by : (t : Bool) → eqb (verdictOn cmd fresh room .status) 0x9000 ≡ t →
-      cond {A = Outcome} t (record { answer = told (replyTo c cmd fresh); card = withSession c (replyTo c cmd fresh .session) }) (record { answer = declined (verdictOn cmd fresh room); card = c }) .answer .number ≡ 0 →
+      cond {A = Outcome} t (done c (replyTo c cmd fresh)) (undone c (verdictOn cmd fresh room)) .answer .number ≡ 0 →
       eqb (verdictOn cmd fresh room .status) 0x9000 ≡ true
   ok-by true e z = e
   ok-by false e z = eq-eqb (verdictOn cmd fresh room .status) 0x9000 (verdict-passes (length cmd) (frameOf cmd) fresh room right z)
@@ -60,7 +60,7 @@ module _ (c : Card) (cmd fresh : List ℕ) (room : ℕ) (right : statusOf (lengt
   pub call-card : outcome c cmd fresh room .answer .number ≡ 0 → outcome c cmd fresh room .card ≡ withSession c (replyTo c cmd fresh .session)
   unfolding outcome
   call-card z =
-      ap (λ (t : Bool). cond {A = Outcome} t (record { answer = told (replyTo c cmd fresh); card = withSession c (replyTo c cmd fresh .session) }) (record { answer = declined (verdictOn cmd fresh room); card = c }) .card)
+      ap (λ (t : Bool). cond {A = Outcome} t (done c (replyTo c cmd fresh)) (undone c (verdictOn cmd fresh room)) .card)
       (goes-on z)
 
 -- the card's block opens for its KeySetID

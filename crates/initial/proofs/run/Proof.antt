@@ -59,15 +59,15 @@ copy-at-requires c κs =
     let l : length (part (s .args .fresh .now) 0 50) ≡ 50 = length-part (s .args .fresh .now) 0 50 (omega (arith, s .pre .1)) in
     omega (arith, ap length (c .first-fifty .ensures), l)
 
-none-requires : tie.Need-none-requires
-none-requires c κs = search needs
+close-requires : tie.Need-close-requires
+close-requires c κs = search needs
 
 same-length-2 : tie.Need-same-length-2
 same-length-2 c = search needs
 
 returns-2 : tie.Need-returns-2
 returns-2 c =
-    let s = c .before .before .before .before .before .before .before .before .before .before .before .before .before .before .before .before in
+    let s = c .before .before .before .before .before .before .before .before .before .before .before .before .before .before .before .before .before in
     let a = s .args in
     let ld : length (a .card .«div_data») ≡ 16 = search (needs, s .good .0) in
     refused
@@ -76,13 +76,13 @@ returns-2 c =
     (a .fresh .now)
     (s .pre .1)
     ld
-    (c .before .before .before .before .before .before .before .before .before .before .before .compare-places .ensures)
+    (c .before .before .before .before .before .before .before .before .before .before .before .before .compare-places .ensures)
     (a .out .now)
-    (omega (arith, c .before .before .before .before .before .before .if1 .left))
-    (c .none .ensures)
-    (c .before .before .before .before .first-fifty .ensures)
-    (c .before .before .before .before .before .before .before .before .before .head .ensures)
-    (c .before .before .before .copy-at .ensures)
+    (omega (arith, c .before .before .before .before .before .before .before .if1 .left))
+    (c .close .ensures)
+    (c .before .before .before .before .before .first-fifty .ensures)
+    (c .before .before .before .before .before .before .before .before .before .before .head .ensures)
+    (c .before .before .before .before .copy-at .ensures)
 
 pub run-spec : {M : Type 1} → statement M
 run-spec =
@@ -98,6 +98,6 @@ run-spec =
     returns
     first-fifty-requires
     copy-at-requires
-    none-requires
+    close-requires
     same-length-2
     returns-2)
