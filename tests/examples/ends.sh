@@ -151,15 +151,18 @@ rsa_faults() { # KEYS
     holds "faults: RSA fails for the card's set" gives "reader: no record, fault 36: the platform's RSA failed, exit 36" "$(session "$1" 0007)"
 }
 
+# told_erased END LINE..: what an end told of its erasing, in order and each line once
+told_erased() { gives "$(printf '%s\n' "${@:2}")" "$(LC_ALL=C sort -u "$room/$1-erased")"; }
+
 # The secrets that stood in what each end erased, and that nothing is left of them: the initial answer's block where RSA failed, too.
 erased() { # KEYS
     local card_env=(ERASED="$room/card-erased") reader_env=(ERASED="$room/reader-erased") ex=$room/seams
     rm -f "$room"/*-erased
     holds "erased: a session" gives "$record" "$(session "$1" 0007)"
-    holds "erased: by the card" gives "card FAKey;card record;card shill-key;fresh RND1;given shill-key;loaded FAKey;loaded record;loaded shill-key;outcome FAKey;outcome RND1;outcome record;outcome shill-key" \
-        "$(LC_ALL=C sort -u "$room/card-erased" | paste -sd ';')"
-    holds "erased: by the reader" gives "accepting KeysHash;blocks RND1;session FAKey;session KeysHash;session RND1;session RND2;session record;sets FAKey" \
-        "$(LC_ALL=C sort -u "$room/reader-erased" | paste -sd ';')"
+    holds "erased: by the card" told_erased card "card FAKey" "card record" "card shill-key" "fresh RND1" "given shill-key" \
+        "loaded FAKey" "loaded record" "loaded shill-key" "outcome FAKey" "outcome RND1" "outcome record" "outcome shill-key"
+    holds "erased: by the reader" told_erased reader "accepting KeysHash" "blocks RND1" "session FAKey" "session KeysHash" "session RND1" \
+        "session RND2" "session record" "sets FAKey"
     rm -f "$room"/*-erased
     card_env+=(ERASE=no) reader_env+=(ERASE=no)
     holds "erased: a session without erasing" gives "$record" "$(session "$1" 0007)"

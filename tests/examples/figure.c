@@ -48,7 +48,8 @@ static bool session(const char *folder)
     clock_t start = clock();
     int number = reader_run(&plan, &s);
     clock_t end = clock();
-    if (number != PLAID_DONE || s.opened.place != PLAID_LIST_IDS - 1 || s.accepted.length != strlen(record) || memcmp(s.work, record, strlen(record)) != 0)
+    if (number != PLAID_DONE || s.opened.place != PLAID_LIST_IDS - 1 || s.accepted.length != strlen(record)
+        || memcmp(s.work, record, strlen(record)) != 0)
         return false;
     printf("figure: a session with RSA-2048 and 16 listed sets: %.1f ms of processor time; %.1f ms with the process's start and its 19 keys\n",
         milliseconds(end - start), milliseconds(end));
