@@ -66,7 +66,9 @@
  *   pad bytes, and none of them is 0: draw a zero again. Never use the bytes
  *   of a call twice, and never for another card. Draw new ones for each call,
  *   also after a call that was declined. plaid_seal gets RND2, 16 bytes, which
- *   are as fresh: new for each session.
+ *   are as fresh: new for each session. Where there are no random bytes, make
+ *   no call. A card answers status 6F00 then, with no bytes before it, and
+ *   stays as it was: a reader that gets no answer waits for one.
  *
  *   RSA on the card. An answer to an initial command is a padded block and a
  *   key handle. The platform encrypts the block by the public RSA key that the
@@ -76,12 +78,21 @@
  *
  *   RSA in the reader. The platform decrypts the card's 256 bytes once for
  *   each listed key set, with that set's private key. It takes no padding off
- *   and hands over all 256 bytes. Where a decryption fails it hands over 256
- *   zero bytes, which open nothing. It does all of them, whichever opens.
+ *   and hands over all 256 bytes. It makes ONE FULL PRIVATE OPERATION FOR EACH
+ *   SET, whichever opens, and whatever number the 256 bytes are: a stranger's
+ *   card may have chosen it. A library refuses a number that is not below the
+ *   modulus at once. A card sees that by time alone, and finds the modulus
+ *   with a few thousand answers. So the platform compares before the library
+ *   does, by steps that do not depend on the number. Where the number is not
+ *   below the modulus, it decrypts the number less the modulus, throws the
+ *   result away and hands over 256 zero bytes, which open nothing. It takes
+ *   only keys whose modulus has 2048 bits: then one subtraction is enough.
+ *   Where an operation itself fails, it hands over 256 zero bytes too.
  *
  * Secrets. A card holds its keys and records as they are. FAKeys, the shill
- * key, RND1, RND2, KeysHash, the padded block and the record are secrets; the
- * caller erases its copies.
+ * key, fresh bytes, RND1, RND2, KeysHash, a block before encryption or after
+ * decryption, and the record are secrets. The caller erases its copies, a card
+ * that was replaced too, by a function that no compiler leaves out.
  */
 #ifndef PLAID_H
 #define PLAID_H

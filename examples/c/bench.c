@@ -7,27 +7,28 @@
 static const char payload[] = "FEEDER-21A";
 
 /* The line between the two ends: a reader_exchange. */
-static size_t exchange(void *line, const uint8_t *command, size_t command_len, uint8_t *answer, size_t answer_room)
+static long exchange(void *line, const uint8_t *command, size_t command_len, uint8_t *answer, size_t answer_room)
 {
     bench *b = line;
     bench_exchange *x = b->exchanges++ == 0 ? &b->initial : &b->final;
-    uint8_t fresh[PLAID_FRESH], others[CARD_ANSWER_MOST];
-    plaid_answer told;
-    uint32_t sum;
+    uint8_t fresh[PLAID_FRESH];
+    card_reply others;
     memcpy(x->command, command, command_len);
     x->command_len = command_len;
     if (b->fault.damage && command[1] == PLAID_INS_FINAL)
         x->command[command_len - 2] ^= 0x01; /* the last data byte; Le stands behind it */
     if (!platform_fresh(fresh))
-        return 0;
-    size_t length = card_answer(&b->card, x->command, command_len, fresh, x->answer, &x->told, &x->sum);
-    size_t other = card_answer(&b->other, x->command, command_len, fresh, others, &told, &sum);
-    if (length < 2 || length > answer_room)
-        return 0;
+        return -1;
+    card_answer(&b->card, x->command, command_len, fresh, &x->reply);
+    card_answer(&b->other, x->command, command_len, fresh, &others);
+    platform_erase(fresh, sizeof fresh);
+    size_t length = x->reply.length;
+    if (x->reply.fault != CARD_DONE || length > answer_room)
+        return -1;
     x->answer_len = length - 2;
-    x->as_other_card = other == length && memcmp(x->answer, others, length) == 0;
-    memcpy(answer, x->answer, length);
-    return length;
+    x->as_other_card = others.length == length && memcmp(x->reply.bytes, others.bytes, length) == 0;
+    memcpy(answer, x->reply.bytes, length);
+    return (long)length;
 }
 
 /* Where the reader has stopped, the bench sends a final command of its own, of the usual length and with random data. */
@@ -52,18 +53,46 @@ static void prepare_reader(bench *b)
     b->plan.line = b;
 }
 
+static bool load_cards(bench *b)
+{
+    plaid_loaded card = example_card(), other = example_other_card();
+    b->card = card.card;
+    b->other = other.card;
+    bool ok = card.number == PLAID_DONE && other.number == PLAID_DONE;
+    platform_erase(&card, sizeof card);
+    platform_erase(&other, sizeof other);
+    return ok;
+}
+
+bool bench_keys(void)
+{
+    static bench b;
+    static const bench_fault none, strange = {true, false, false, false};
+    bool ok = load_cards(&b) && card_keys(&b.card) && card_keys(&b.other);
+    b.fault = none;
+    prepare_reader(&b);
+    ok = ok && reader_keys(&b.plan);
+    b.fault = strange;
+    prepare_reader(&b);
+    ok = ok && reader_keys(&b.plan);
+    bench_forget(&b);
+    return ok;
+}
+
 bool bench_run(bench *b, bench_fault fault)
 {
     memset(b, 0, sizeof *b);
     b->fault = fault;
-    plaid_loaded card = example_card(), other = example_other_card();
-    if (card.number != PLAID_DONE || other.number != PLAID_DONE)
+    if (!load_cards(b))
         return false;
-    b->card = card.card;
-    b->other = other.card;
     prepare_reader(b);
     b->number = reader_run(&b->plan, &b->session);
     if (b->exchanges == 1 && b->number == PLAID_DECLINE_NONE_OPENS && !send_random_final(b))
         return false;
-    return b->number != READER_NO_ANSWER;
+    return b->number < READER_NO_KEY;
+}
+
+void bench_forget(bench *b)
+{
+    platform_erase(b, sizeof *b);
 }

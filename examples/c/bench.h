@@ -12,10 +12,8 @@
 typedef struct {
     uint8_t command[PLAID_COMMAND_MOST];
     size_t command_len;
-    uint8_t answer[CARD_ANSWER_MOST];
+    card_reply reply;
     size_t answer_len;  /* without the status */
-    plaid_answer told;
-    uint32_t sum;
     bool as_other_card; /* the other card sent the same bytes */
 } bench_exchange;
 
@@ -38,7 +36,13 @@ typedef struct {
     bench_exchange initial, final;
 } bench;
 
+/* Loads the RSA keys of the cards and the readers. False where one is not there. */
+bool bench_keys(void);
+
 /* Runs a session. False where a load was declined or the platform failed. */
 bool bench_run(bench *b, bench_fault fault);
+
+/* Erases it. */
+void bench_forget(bench *b);
 
 #endif

@@ -1,35 +1,79 @@
 /*
  * A card: reads commands from standard input, a line of hexadecimal bytes for each, and answers each with a line of its bytes and status.
  *
- *   card [KEYS]      KEYS: the folder of RSA keys; none: the stand-in
+ *   card [KEYS]      KEYS: the folder of RSA keys; none: the stand-in, which standard error names
+ *
+ * Every line gets an answer, so that no reader waits for one. Where the platform fails it is 6F00. A line that is no hexadecimal, or has
+ * half a byte, is no command: 6700, and the card stays as it was. One of over 261 bytes is a command with a fault, and gets its status.
+ * Each of these is named on standard error with the line's number, and the card goes on.
+ *
+ * Exit status: 0; 1 where a line was named, or the load was declined; 2 usage; 101 no RSA keys.
  */
 #include "card_end.h"
 #include "example.h"
 #include "hex.h"
 #include "platform.h"
 
+/* Says what is wrong with a line. False, for the caller to hand on. */
+static bool named(long line, const char *what)
+{
+    fprintf(stderr, "card: line %ld: %s\n", line, what);
+    return false;
+}
+
+/* Answers one line. False where it had to be named. */
+static bool serve(plaid_card *card, long line, const uint8_t *command, size_t length)
+{
+    card_reply reply;
+    card_serve(card, command, length, &reply);
+    bool sent = hex_write(stdout, reply.bytes, reply.length);
+    if (reply.fault != CARD_DONE)
+        return named(line, card_words(reply.fault));
+    if (length > PLAID_COMMAND_MOST)
+        return named(line, "too long for a command");
+    return sent || named(line, "the answer could not be written");
+}
+
+static bool serve_all(plaid_card *card)
+{
+    static const uint8_t no_command[] = {PLAID_ANSWER_WRONG_LENGTH >> 8, PLAID_ANSWER_WRONG_LENGTH & 0xFF};
+    uint8_t command[PLAID_COMMAND_MOST + 1]; /* one byte more than a command has, so that the library sees that it is too long */
+    bool good = true;
+    long length;
+    for (long line = 1; (length = hex_line(stdin, command, sizeof command)) != HEX_END; line++) {
+        if (length < 0) {
+            hex_write(stdout, no_command, sizeof no_command);
+            good = named(line, hex_words(length));
+        } else {
+            good = serve(card, line, command, (size_t)length < sizeof command ? (size_t)length : sizeof command) && good;
+        }
+    }
+    return good && feof(stdin);
+}
+
 int main(int argc, char **argv)
 {
-    platform_keys(argc > 1 ? argv[1] : NULL);
+    if (argc > 2 || (argc == 2 && (argv[1][0] == '-' || !argv[1][0]))) {
+        fprintf(stderr, "usage: card [KEYS] <commands >answers, a line of hexadecimal bytes each; KEYS: a folder of make-keys\n");
+        return 2;
+    }
+    platform_open(argc > 1 ? argv[1] : NULL);
+    if (platform_is_stand_in())
+        fprintf(stderr, "card: %s\n", platform_rsa());
     plaid_loaded loaded = example_card();
-    if (loaded.number != PLAID_DONE) {
-        fprintf(stderr, "card: load declined by %d\n", loaded.number);
+    plaid_card card = loaded.card;
+    int number = loaded.number;
+    platform_erase(&loaded, sizeof loaded);
+    if (number != PLAID_DONE) {
+        fprintf(stderr, "card: load declined by %d\n", number);
         return 1;
     }
-    plaid_card card = loaded.card;
-    uint8_t command[PLAID_COMMAND_MOST + 1]; /* one byte more than a whole command: 6700 is then certain */
-    uint8_t fresh[PLAID_FRESH], answer[CARD_ANSWER_MOST];
-    long length;
-    while ((length = hex_line(stdin, command, sizeof command)) >= 0) {
-        plaid_answer told;
-        uint32_t sum;
-        size_t given = (size_t)length < sizeof command ? (size_t)length : sizeof command;
-        size_t sent = platform_fresh(fresh) ? card_answer(&card, command, given, fresh, answer, &told, &sum) : 0;
-        if (sent == 0) {
-            fprintf(stderr, "card: the platform failed\n");
-            return 1;
-        }
-        hex_write(stdout, answer, sent);
-    }
-    return feof(stdin) ? 0 : 1;
+    int status = 101;
+    if (card_keys(&card))
+        status = serve_all(&card) ? 0 : 1;
+    else
+        fprintf(stderr, "card: %s\n", platform_trouble());
+    platform_erase(&card, sizeof card);
+    platform_close();
+    return status;
 }

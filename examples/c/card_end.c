@@ -1,19 +1,64 @@
 #include "card_end.h"
 #include "platform.h"
 
-size_t card_answer(plaid_card *card, const uint8_t *command, size_t command_len, const uint8_t fresh[PLAID_FRESH],
-                   uint8_t answer[CARD_ANSWER_MOST], plaid_answer *told, uint32_t *sum)
+#include <string.h>
+
+const char *card_words(card_fault fault)
 {
-    plaid_outcome o = plaid_command(*card, command, command_len, fresh, PLAID_FRESH, answer, PLAID_OUTPUT);
+    static const char *const words[] = {
+        "done", "no random bytes, answered 6F00", "plaid_command declined the fresh bytes, answered 6F00", "RSA failed, answered 6F00"};
+    return words[fault];
+}
+
+bool card_keys(const plaid_card *card)
+{
+    for (size_t i = 0; i < PLAID_CARD_KEY_SETS && card->sets[i].held; i++)
+        if (!platform_load_public(card->sets[i].handle))
+            return false;
+    return platform_load_public(card->shill_handle);
+}
+
+static void set_status(card_reply *r, size_t length, uint16_t status)
+{
+    r->bytes[length] = (uint8_t)(status >> 8);
+    r->bytes[length + 1] = (uint8_t)status;
+    r->length = length + 2;
+}
+
+/* Nothing of what was to be sent stays: an initial answer's block is a secret until it is encrypted. */
+static void fail(card_reply *r, card_fault fault)
+{
+    platform_erase(r->bytes, sizeof r->bytes);
+    r->fault = fault;
+    set_status(r, 0, CARD_STATUS_FAILED);
+}
+
+void card_answer(plaid_card *card, const uint8_t *command, size_t command_len, const uint8_t fresh[PLAID_FRESH], card_reply *reply)
+{
+    memset(reply, 0, sizeof *reply);
+    plaid_outcome o = plaid_command(*card, command, command_len, fresh, PLAID_FRESH, reply->bytes, PLAID_OUTPUT);
     *card = o.card; /* always: the old card is never used again */
-    *told = o.answer;
-    *sum = o.sum;
-    if (o.answer.number != PLAID_DONE)
-        return 0;
+    reply->told = o.answer;
+    reply->sum = o.sum;
+    platform_erase(&o, sizeof o);
+    const plaid_answer *told = &reply->told;
+    if (told->number != PLAID_DONE)
+        fail(reply, CARD_DECLINED);
     /* An initial answer is encrypted before it leaves, under the shill key too. */
-    if (o.answer.length == PLAID_ANSWER_INITIAL && !platform_encrypt(o.answer.handle, answer))
-        return 0;
-    answer[o.answer.length] = (uint8_t)(o.answer.status >> 8);
-    answer[o.answer.length + 1] = (uint8_t)o.answer.status;
-    return o.answer.length + 2;
+    else if (told->length == PLAID_ANSWER_INITIAL && !platform_encrypt(told->handle, reply->bytes))
+        fail(reply, CARD_NO_RSA);
+    else
+        set_status(reply, told->length, told->status);
+}
+
+void card_serve(plaid_card *card, const uint8_t *command, size_t command_len, card_reply *reply)
+{
+    uint8_t fresh[PLAID_FRESH];
+    if (platform_fresh(fresh)) {
+        card_answer(card, command, command_len, fresh, reply);
+    } else {
+        memset(reply, 0, sizeof *reply);
+        fail(reply, CARD_NO_RANDOM);
+    }
+    platform_erase(fresh, sizeof fresh);
 }

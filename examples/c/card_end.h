@@ -7,11 +7,38 @@
 /* An answer as it is sent, with its status at the end. */
 #define CARD_ANSWER_MOST (PLAID_OUTPUT + 2)
 
+/* The status where the platform failed, with no bytes before it (ISO/IEC 7816-4: no precise diagnosis). A reader gets an answer to everything. */
+#define CARD_STATUS_FAILED 0x6F00
+
+/* Why the status is 6F00. */
+typedef enum {
+    CARD_DONE,
+    CARD_NO_RANDOM, /* no fresh bytes */
+    CARD_DECLINED,  /* plaid_command declined them, or the output */
+    CARD_NO_RSA     /* RSA failed */
+} card_fault;
+
+typedef struct {
+    card_fault fault;
+    size_t length; /* at least 2 */
+    uint8_t bytes[CARD_ANSWER_MOST];
+    plaid_answer told; /* the counts, which stay here, as does the sum */
+    uint32_t sum;
+} card_reply;
+
+/* A fault in words. */
+const char *card_words(card_fault fault);
+
+/* Loads the public RSA keys of a card's handles. False where one is not there. */
+bool card_keys(const plaid_card *card);
+
 /*
- * Runs a command with fresh bytes of its own, puts the next card in the place of the old one and writes what is to be sent. Returns its
- * length; 0 where the platform failed and nothing is sent. `told` gets the counts and `sum` the work sum, which stay here.
+ * Runs a command with these fresh bytes, puts the next card in the place of the old one and gives what is to be sent. Where RSA failed the
+ * next card stands all the same: the session that it may have opened has an RND1 that nobody was told.
  */
-size_t card_answer(plaid_card *card, const uint8_t *command, size_t command_len, const uint8_t fresh[PLAID_FRESH],
-                   uint8_t answer[CARD_ANSWER_MOST], plaid_answer *told, uint32_t *sum);
+void card_answer(plaid_card *card, const uint8_t *command, size_t command_len, const uint8_t fresh[PLAID_FRESH], card_reply *reply);
+
+/* The same with fresh bytes of its own, which are erased. Without any the card stays as it was. */
+void card_serve(plaid_card *card, const uint8_t *command, size_t command_len, card_reply *reply);
 
 #endif

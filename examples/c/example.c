@@ -1,4 +1,5 @@
 #include "example.h"
+#include "platform.h"
 
 #include <string.h>
 
@@ -43,7 +44,9 @@ plaid_loaded example_card(void)
     g.modes[0] = (plaid_mode){{0x0007}, 0, 22};
     g.modes[1] = (plaid_mode){{0x0008}, 22, 22};
     g.mode_count = 2;
-    return plaid_load(card_sets, 2, g, area, strlen(RECORDS));
+    plaid_loaded loaded = plaid_load(card_sets, 2, g, area, strlen(RECORDS));
+    platform_erase(&g, sizeof g);
+    return loaded;
 }
 
 plaid_loaded example_other_card(void)
@@ -53,5 +56,7 @@ plaid_loaded example_other_card(void)
     plaid_given g = given("CARD-99999999999");
     g.modes[0] = (plaid_mode){{0x0077}, 0, 22};
     g.mode_count = 1;
-    return plaid_load(&set, 1, g, area, 22);
+    plaid_loaded loaded = plaid_load(&set, 1, g, area, 22);
+    platform_erase(&g, sizeof g);
+    return loaded;
 }

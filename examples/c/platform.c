@@ -1,37 +1,83 @@
-/* The examples' platform: /dev/urandom, and the openssl command for RSA. */
+/* The examples' platform, over a library (backend.h) or a stand-in for RSA. */
 #include "platform.h"
+#include "backend.h"
 
 #include <stdio.h>
-#include <stdlib.h>
 
-static const char *keys;
+static const char *keys; /* their folder; NULL: the stand-in */
+static char trouble[1024];
 
-void platform_keys(const char *folder)
+void platform_open(const char *folder)
 {
     keys = folder;
 }
 
+typedef const char *backend_load(uint8_t handle, const char *path);
+
+static bool load(backend_load *from, uint8_t handle, const char *kind)
+{
+    char path[768];
+    if (!keys)
+        return true;
+    bool whole = snprintf(path, sizeof path, "%s/%02X-%s.pem", keys, handle, kind) < (int)sizeof path;
+    const char *why = whole ? from(handle, path) : "too long a name";
+    if (why)
+        snprintf(trouble, sizeof trouble, "%s: %s", path, why);
+    return !why;
+}
+
+bool platform_load_public(uint8_t handle)
+{
+    return load(backend_load_public, handle, "public");
+}
+
+bool platform_load_private(uint8_t handle)
+{
+    return load(backend_load_private, handle, "private");
+}
+
+const char *platform_trouble(void)
+{
+    return trouble;
+}
+
+void platform_close(void)
+{
+    backend_close();
+    keys = NULL;
+}
+
+bool platform_is_stand_in(void)
+{
+    return !keys;
+}
+
 const char *platform_rsa(void)
 {
-    return keys ? "RSA-2048 by the openssl command" : "a STAND-IN for RSA, which hides nothing";
+    static char name[96];
+    if (!keys)
+        return backend_rsa() ? "a STAND-IN for RSA, which hides nothing" : "a STAND-IN for RSA, which hides nothing: built without libcrypto";
+    snprintf(name, sizeof name, "RSA-2048 by %s", backend_rsa() ? backend_rsa() : "nothing");
+    return name;
+}
+
+const char *platform_source(void)
+{
+    return backend_source();
 }
 
 bool platform_random(uint8_t *to, size_t count)
 {
-    FILE *f = fopen("/dev/urandom", "rb");
-    bool ok = f && fread(to, 1, count, f) == count;
-    if (f)
-        fclose(f);
-    return ok;
+    return backend_random(to, count);
 }
 
 bool platform_fresh(uint8_t fresh[PLAID_FRESH])
 {
-    if (!platform_random(fresh, PLAID_FRESH))
+    if (!backend_random(fresh, PLAID_FRESH))
         return false;
     for (size_t i = PLAID_FRESH_ANY; i < PLAID_FRESH; i++)
         while (fresh[i] == 0)
-            if (!platform_random(&fresh[i], 1))
+            if (!backend_random(&fresh[i], 1))
                 return false;
     return true;
 }
@@ -46,42 +92,51 @@ static void stand_in(uint8_t handle, uint8_t block[PLAID_BLOCK])
     }
 }
 
-static bool transfer(const char *path, const char *mode, uint8_t block[PLAID_BLOCK])
-{
-    FILE *f = fopen(path, mode);
-    if (!f)
-        return false;
-    size_t moved = mode[0] == 'r' ? fread(block, 1, PLAID_BLOCK, f) : fwrite(block, 1, PLAID_BLOCK, f);
-    return fclose(f) == 0 && moved == PLAID_BLOCK;
-}
-
-/* openssl reads the block from one file and writes the result to another; the operation names both, and the key that it takes. */
-static bool rsa(const char *operation, const char *key, uint8_t handle, uint8_t block[PLAID_BLOCK])
-{
-    char in[512], out[512], command[2048];
-    snprintf(in, sizeof in, "%s/%s.in", keys, operation);
-    snprintf(out, sizeof out, "%s/%s.out", keys, operation);
-    int length = snprintf(command, sizeof command,
-        "openssl pkeyutl -%s -inkey '%s/%02X%s -pkeyopt rsa_padding_mode:none -in '%s' -out '%s' 2>/dev/null",
-        operation, keys, handle, key, in, out);
-    bool ok = length < (int)sizeof command && transfer(in, "wb", block) && system(command) == 0 && transfer(out, "rb", block);
-    remove(in);
-    remove(out);
-    return ok;
-}
-
 bool platform_encrypt(uint8_t handle, uint8_t block[PLAID_BLOCK])
 {
     if (keys)
-        return rsa("encrypt", "-public.pem' -pubin", handle, block);
+        return backend_public(handle, block);
     stand_in(handle, block);
     return true;
 }
 
+/*
+ * Takes the modulus off a number that is not below it, by the same steps for every number. Once is enough: the modulus has 2048 bits, so
+ * twice the modulus is over every number of 256 bytes. Returns 0xFF where the number was below the modulus, else 0.
+ */
+static uint8_t reduce(uint8_t number[PLAID_BLOCK], const uint8_t modulus[PLAID_BLOCK])
+{
+    uint8_t less[PLAID_BLOCK];
+    unsigned borrow = 0;
+    for (size_t i = PLAID_BLOCK; i-- > 0;) {
+        unsigned digit = 0x100u + number[i] - modulus[i] - borrow;
+        less[i] = (uint8_t)digit;
+        borrow = 1u - (digit >> 8);
+    }
+    uint8_t below = (uint8_t)(0u - borrow);
+    for (size_t i = 0; i < PLAID_BLOCK; i++)
+        number[i] = (uint8_t)((number[i] & below) | (less[i] & ~below));
+    return below;
+}
+
+/* A library refuses a number that is not below the modulus at once, which shows in the time. So it never gets one. */
 bool platform_decrypt(uint8_t handle, uint8_t block[PLAID_BLOCK])
 {
-    if (keys)
-        return rsa("decrypt", "-private.pem'", handle, block);
-    stand_in(handle, block);
-    return true;
+    uint8_t modulus[PLAID_BLOCK];
+    if (!keys) {
+        stand_in(handle, block);
+        return true;
+    }
+    bool there = backend_modulus(handle, modulus);
+    uint8_t keep = reduce(block, modulus);
+    bool ok = backend_private(handle, block) && there;
+    keep = ok ? keep : 0;
+    for (size_t i = 0; i < PLAID_BLOCK; i++)
+        block[i] &= keep;
+    return ok;
+}
+
+void platform_erase(void *at, size_t count)
+{
+    backend_erase(at, count);
 }

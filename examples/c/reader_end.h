@@ -4,8 +4,8 @@
 
 #include "plaid.h"
 
-/* Sends a command and gets the answer with its status, at most answer_room bytes. Returns the answer's length; 0: none. */
-typedef size_t reader_exchange(void *line, const uint8_t *command, size_t command_len, uint8_t *answer, size_t answer_room);
+/* Sends a command and gets the answer with its status. Returns how many bytes it has, of which the first answer_room are written; -1: none. */
+typedef long reader_exchange(void *line, const uint8_t *command, size_t command_len, uint8_t *answer, size_t answer_room);
 
 /* What the reader wants, and how it reaches the card. */
 typedef struct {
@@ -26,12 +26,31 @@ typedef struct {
     plaid_accepted accepted;
     uint8_t work[PLAID_RESPONSE_MOST];
     plaid_part record;                 /* of the work buffer; empty where there is none */
+    uint8_t ins;                       /* of the last command sent */
+    long answered;                     /* its answer's length with the status; -1: none */
+    uint16_t status;                   /* its answer's status */
 } reader_session;
 
-/* Beside the numbers of plaid.h: the card or the platform gave no answer. */
-#define READER_NO_ANSWER (-1)
+/* Why there is no record, beside the numbers of plaid.h, which stay below these. */
+enum {
+    READER_NO_KEY = 101, /* an RSA key is not there */
+    READER_NO_ANSWER,   /* the line gave no answer */
+    READER_STATUS,      /* the answer's status is not 9000 */
+    READER_LENGTH,      /* the answer has a length that none has */
+    READER_NO_RANDOM,   /* the platform has no random bytes */
+    READER_NO_RSA       /* a private operation failed, and no block opened */
+};
 
-/* Returns 0 where the record is there; else the number of the decline, or READER_NO_ANSWER. */
+/* Loads the private RSA keys of a plan's handles. False where one is not there. */
+bool reader_keys(const reader_plan *plan);
+
+/* Returns 0 where the record is there; else the number of the decline, or READER_... Behind it the session holds secrets. */
 int reader_run(const reader_plan *plan, reader_session *s);
+
+/* What reader_run returned, in words. */
+void reader_words(int number, const reader_session *s, char *to, size_t room);
+
+/* Erases a session. */
+void reader_forget(reader_session *s);
 
 #endif

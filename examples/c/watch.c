@@ -2,7 +2,7 @@
  * A session to watch: a card and a reader on the bench, each message with its fields in words; then one refused session of each kind, as
  * a stranger sees it and as the key holder sees it. Exit status 1 where something was not as expected.
  *
- *   watch [KEYS]      KEYS: the folder of RSA keys; none: the stand-in
+ *   watch [KEYS]      KEYS: the folder of RSA keys; none: the stand-in, which the output names
  */
 #include "bench.h"
 #include "platform.h"
@@ -81,9 +81,9 @@ static void show_initial(const bench *b)
 static void show_opened(const bench *b)
 {
     const plaid_opened *o = &b->session.opened;
-    printf("\n2  CARD TO READER: %zu bytes, status %04X\n", b->initial.answer_len, b->initial.told.status);
-    show_rows(b->initial.answer, b->initial.answer_len);
-    printf("    One padded block, encrypted under RSA key %02X. The reader decrypts it\n", b->initial.told.handle);
+    printf("\n2  CARD TO READER: %zu bytes, status %04X\n", b->initial.answer_len, b->initial.reply.told.status);
+    show_rows(b->initial.reply.bytes, b->initial.answer_len);
+    printf("    One padded block, encrypted under RSA key %02X. The reader decrypts it\n", b->initial.reply.told.handle);
     printf("    with the private key of each listed set:\n");
     for (size_t i = 0; i <= o->place; i++)
         printf("    entry %zu     KeySetID %04X  %s\n", i, b->sets[i].id.value, i < o->place ? "does not open" : "opens, so this set wins");
@@ -110,8 +110,8 @@ static void show_record(const bench *b)
 {
     const plaid_part *part = &b->session.record;
     const uint8_t *record = b->session.work + part->start;
-    printf("\n4  CARD TO READER: %zu bytes, status %04X\n", b->final.answer_len, b->final.told.status);
-    show_rows(b->final.answer, b->final.answer_len);
+    printf("\n4  CARD TO READER: %zu bytes, status %04X\n", b->final.answer_len, b->final.reply.told.status);
+    show_rows(b->final.reply.bytes, b->final.answer_len);
     printf("    Enciphered under KeysHash. The reader accepts it:\n");
     printf("    record      %zu bytes: %.*s\n", part->length, (int)part->length, (const char *)record);
     show_field("DivData", record + part->length, PLAID_DIV_DATA, "");
@@ -122,16 +122,16 @@ static void show_count(const char *name, size_t initial, size_t final)
     printf("    %-16s%10zu%10zu\n", name, initial, final);
 }
 
-static void show_work(const bench *b)
+static void show_counts(const card_reply *initial, const card_reply *final)
 {
-    const plaid_answer *i = &b->initial.told, *f = &b->final.told;
+    const plaid_answer *i = &initial->told, *f = &final->told;
     printf("\nTHE CARD'S WORK        initial     final\n");
     show_count("comparisons", i->comparisons, f->comparisons);
     show_count("decipherments", i->decipherments, f->decipherments);
     show_count("encipherments", i->encipherments, f->encipherments);
     show_count("expansions", i->expansions, f->expansions);
     show_count("hash blocks", i->hash_blocks, f->hash_blocks);
-    printf("    %-16s  %08X  %08X   not sent\n", "work sum", (unsigned)b->initial.sum, (unsigned)b->final.sum);
+    printf("    %-16s  %08X  %08X   not sent\n", "work sum", (unsigned)initial->sum, (unsigned)final->sum);
 }
 
 static bool watch_good(bench *b)
@@ -144,7 +144,7 @@ static bool watch_good(bench *b)
     show_opened(b);
     show_final(b);
     show_record(b);
-    show_work(b);
+    show_counts(&b->initial.reply, &b->final.reply);
     return true;
 }
 
@@ -162,18 +162,18 @@ static void show_message(const char *from, const uint8_t *bytes, size_t count, u
 static void show_exchange(const bench_exchange *x)
 {
     show_message("reader", x->command, x->command_len, 0);
-    show_message("card", x->answer, x->answer_len, x->told.status);
+    show_message("card", x->reply.bytes, x->answer_len, x->reply.told.status);
 }
 
 /* What the key holder sees of the initial command. */
 static void explain_initial(const bench *b)
 {
     if (b->session.opened.number != PLAID_DONE) {
-        printf("    card     holds none of the sets: shill RSA key %02X, no session\n", b->initial.told.handle);
+        printf("    card     holds none of the sets: shill RSA key %02X, no session\n", b->initial.reply.told.handle);
         printf("    reader   Open gives %d: no block opens\n", b->session.opened.number);
         return;
     }
-    printf("    card     holds set %04X: RSA key %02X, session open\n", b->session.opened.id.value, b->initial.told.handle);
+    printf("    card     holds set %04X: RSA key %02X, session open\n", b->session.opened.id.value, b->initial.reply.told.handle);
     printf("    reader   Open finds entry %zu, set %04X\n", b->session.opened.place, b->session.opened.id.value);
 }
 
@@ -202,29 +202,45 @@ static bool watch_refused(const bench *good, const char *title, bench_fault faul
     printf("  as the key holder sees it\n");
     explain_initial(&b);
     explain_final(&b, cause);
-    return b.number == number && b.final.as_other_card && !b.card.session.opened
+    bool alike = b.number == number && b.final.as_other_card && !b.card.session.opened
         && b.initial.command_len == good->initial.command_len && b.initial.answer_len == good->initial.answer_len
         && b.final.command_len == good->final.command_len && b.final.answer_len == good->final.answer_len
-        && b.initial.told.status == PLAID_ANSWER_OK && b.final.told.status == PLAID_ANSWER_OK;
+        && b.initial.reply.told.status == PLAID_ANSWER_OK && b.final.reply.told.status == PLAID_ANSWER_OK;
+    bench_forget(&b);
+    return alike;
+}
+
+static bool watch_all(bench *good)
+{
+    static const bench_fault no_set = {true, false, false, false}, key = {false, true, false, false}, mode = {false, false, true, false},
+                             damage = {false, false, false, true};
+    return watch_good(good)
+        && watch_refused(good, "no key set in common", no_set, "stops; the bench sends random bytes as a final command", 15)
+        && watch_refused(good, "wrong FAKey", key, "Seal, under a FAKey that differs in one bit", 20)
+        && watch_refused(good, "unknown mode", mode, "Seal, for mode 0BAD, which the card does not hold", 20)
+        && watch_refused(good, "damaged padding", damage, "Seal; a bit of the last block flips on the line: padding lost", 20);
 }
 
 int main(int argc, char **argv)
 {
     static bench good;
-    static const bench_fault no_set = {true, false, false, false}, key = {false, true, false, false}, mode = {false, false, true, false},
-                             damage = {false, false, false, true};
-    platform_keys(argc > 1 ? argv[1] : NULL);
-    printf("A PLAID session. Fresh bytes: /dev/urandom.\nRSA: %s.\n\n", platform_rsa());
-    bool ok = watch_good(&good)
-        && watch_refused(&good, "no key set in common", no_set, "stops; the bench sends random bytes as a final command", 15)
-        && watch_refused(&good, "wrong FAKey", key, "Seal, under a FAKey that differs in one bit", 20)
-        && watch_refused(&good, "unknown mode", mode, "Seal, for mode 0BAD, which the card does not hold", 20)
-        && watch_refused(&good, "damaged padding", damage, "Seal; a bit of the last block flips on the line: padding lost", 20);
-    if (!ok) {
-        printf("\nNOT AS EXPECTED: stopped.\n");
-        return 1;
+    if (argc > 2 || (argc == 2 && argv[1][0] == '-')) {
+        fprintf(stderr, "usage: watch [KEYS]\n");
+        return 2;
     }
-    printf("\nOn the line all five sessions were alike: messages of %zu, %zu, %zu and %zu\nbytes, status 9000. One of them gave a record.\n",
-        good.initial.command_len, good.initial.answer_len, good.final.command_len, good.final.answer_len);
-    return 0;
+    platform_open(argc > 1 ? argv[1] : NULL);
+    if (!bench_keys()) {
+        fprintf(stderr, "watch: %s\n", platform_trouble());
+        return READER_NO_KEY;
+    }
+    printf("A PLAID session. Fresh bytes: %s.\nRSA: %s.\n\n", platform_source(), platform_rsa());
+    bool ok = watch_all(&good);
+    if (ok)
+        printf("\nOn the line all five sessions were alike: messages of %zu, %zu, %zu and %zu\nbytes, status 9000. One of them gave a record.\n",
+            good.initial.command_len, good.initial.answer_len, good.final.command_len, good.final.answer_len);
+    else
+        printf("\nNOT AS EXPECTED: stopped.\n");
+    bench_forget(&good);
+    platform_close();
+    return ok ? 0 : 1;
 }

@@ -1,0 +1,182 @@
+# Sourced by run, with $top, $room, $ex (the folder of the examples) and the functions of tests/tally.sh: the card and the reader, over a
+# pair of pipes and each alone.
+
+gives() { [ "$1" = "$2" ] || { echo "wanted: $1"; echo "got:    $2"; return 1; }; }
+zeros() { printf '%0*d' "$1" 0; }
+
+# session KEYS MODE [FAKEY]: writes what the reader says, but for the stand-in's name, and its exit status
+card_env=() reader_env=() filter=(cat) # what the card's and the reader's environment have more; what the card's answers go through
+session() {
+    rm -f "$room/up" "$room/down"
+    mkfifo "$room/up" "$room/down"
+    env "${card_env[@]}" timeout 60 "$ex/card" ${1:+"$1"} <"$room/up" 2>"$room/card-told" | "${filter[@]}" >"$room/down" &
+    env "${reader_env[@]}" timeout 60 "$ex/reader" "$2" "$1" ${3:+"$3"} >"$room/up" <"$room/down" 2>"$room/told"
+    local status=$?
+    wait
+    echo "$(grep -v STAND-IN "$room/told" | paste -sd ';'), exit $status"
+}
+
+record="record: ROLE=settings engineer, exit 0"
+stand_ins() { cat "$room/card-told" "$room/told" | sed -n 's/: a STAND-IN for RSA, which hides nothing.*//p' | paste -sd ' '; }
+sessions() { # KEYS: '' is the stand-in
+    local name="session, ${1:+RSA}" named=""
+    if [ -z "$1" ]; then name="session, stand-in" named="card reader"; fi
+    holds "$name: record of mode 0007" gives "$record" "$(session "$1" 0007)"
+    holds "$name: both name a stand-in, and RSA is none" gives "$named" "$(stand_ins)"
+    holds "$name: record of mode 0008" gives "record: ROLE=protection viewer, exit 0" "$(session "$1" 0008)"
+    holds "$name: the right FAKey as an argument" gives "$record" \
+        "$(session "$1" 0007 "$(printf 'FAKey of set 102' | od -An -tx1 | tr -d ' \n')")"
+    holds "$name: wrong FAKey" gives "reader: no record, number 20, exit 1" "$(session "$1" 0007 "$(zeros 32)")"
+    holds "$name: unknown mode" gives "reader: no record, number 20, exit 1" "$(session "$1" 0BAD)"
+}
+
+# card LINE..: the card's answers and exit status, on one line; what it complains of goes to a file
+card() {
+    { printf '%s\n' "$@" | env "${card_env[@]}" "$ex/card" ${keys:+"$keys"} 2>"$room/complaints"; echo "exit $?"; } | paste -sd ' '
+}
+keys=
+complains() { gives "$1" "$(grep -v STAND-IN "$room/complaints")"; }
+initial=00870000063004040201020"0"
+final=0086000010$(zeros 32)00
+
+# Document 01's edges, what a card says to a final command out of the blue, and lines that are no command.
+card_alone() {
+    holds "card: statuses" gives "6700 6E00 6D00 6A86 exit 0" "$(card 00870000 80870000 00880000 00860100)"
+    holds "card: an empty command" gives "6700 exit 0" "$(card "")"
+    holds "card: a final command without a session" grep -Eq '^[0-9A-F]{96}9000 exit 0$' <(card "$final")
+    holds "card: an initial command" grep -Eq '^[0-9A-F]{512}9000 exit 0$' <(card "$initial")
+    holds "card: nothing to complain of" complains ""
+    holds "card: a line without its end" gives 6E00 "$(printf 80870000 | "$ex/card" 2>/dev/null)"
+    holds "card: lines that end by two characters" gives "6E00 6D00" "$(printf '80870000\r\n00880000\r\n' | "$ex/card" 2>/dev/null | paste -sd ' ')"
+    holds "card: a zero character" gives "6700 6E00" "$(printf '00\00087\n80870000\n' | "$ex/card" 2>/dev/null | paste -sd ' ')"
+    holds "card: goes on after lines that are no command" gives "6E00 6700 6700 6D00 exit 1" "$(card 80870000 zz 0087000 00880000)"
+    holds "card: names them" complains "card: line 2: not hexadecimal
+card: line 3: half a byte, an odd number of digits"
+    holds "card: goes on after long lines" gives "6700 6E00 6700 6D00 exit 1" \
+        "$(card "00870000FF$(zeros 514)" "80870000FF$(zeros 590)" "00870000FF$(zeros 9990)" 00880000)"
+    holds "card: names long lines" complains "card: line 1: too long for a command
+card: line 2: too long for a command
+card: line 3: too long for a command"
+}
+
+# usage PROGRAM ARGUMENT..: says how it is called, and ends with 2
+usage() {
+    "$@" </dev/null 2>"$room/complaints" >"$room/out"
+    [ $? -eq 2 ] && grep -q "^usage: ${1##*/} " "$room/complaints" && [ ! -s "$room/out" ]
+}
+usages() {
+    holds "usage: card --help" usage "$ex/card" --help
+    holds "usage: card, two arguments" usage "$ex/card" a b
+    holds "usage: reader" usage "$ex/reader"
+    holds "usage: reader --help" usage "$ex/reader" --help
+    holds "usage: reader, a mode of three digits" usage "$ex/reader" 007
+    holds "usage: reader, a mode of six digits" usage "$ex/reader" 000007
+    holds "usage: reader, a short FAKey" usage "$ex/reader" 0007 '' 00
+    holds "usage: reader, four arguments" usage "$ex/reader" 0007 '' "$(zeros 32)" x
+    holds "usage: watch --help" usage "$ex/watch" --help
+}
+
+# answered TEXT: what the reader makes of a card that says this, whatever it is asked
+answered() {
+    printf '%b' "$1" | timeout 60 "$ex/reader" 0007 2>"$room/told" >/dev/null
+    local status=$?
+    echo "$(grep -v STAND-IN "$room/told" | paste -sd ';'), exit $status"
+}
+# changed SCRIPT: a session in which sed changes the card's answers
+changed() {
+    local filter=(sed -u "$1")
+    session "" 0007
+}
+reader_alone() {
+    local no="reader: no record" none="the line gave no answer to the" first="in answer to the initial command" last="in answer to the final command"
+    holds "reader: no answer" gives "reader: line 1: nothing more can be read;$no, fault 102: $none initial command, exit 102" "$(answered '')"
+    holds "reader: not hexadecimal" gives "reader: line 1: not hexadecimal;$no, fault 102: $none initial command, exit 102" "$(answered 'no\n')"
+    holds "reader: half a byte" gives "reader: line 1: half a byte, an odd number of digits;$no, fault 102: $none initial command, exit 102" \
+        "$(answered '90000\n')"
+    holds "reader: nobody takes its commands" gives 102 "$("$ex/reader" 0007 2>/dev/null >/dev/full </dev/null; echo $?)"
+    holds "reader: a status" gives "$no, fault 103: status 6F00 to the initial command, exit 103" "$(answered '6F00\n')"
+    holds "reader: a status behind a block" gives "$no, fault 103: status 6283 to the initial command, exit 103" "$(answered "$(zeros 512)6283\n")"
+    holds "reader: a status alone" gives "$no, fault 104: 2 bytes $first, exit 104" "$(answered '9000\n')"
+    holds "reader: one byte" gives "$no, fault 104: 1 bytes $first, exit 104" "$(answered '90\n')"
+    holds "reader: an empty line" gives "$no, fault 104: 0 bytes $first, exit 104" "$(answered '\n')"
+    holds "reader: a block of 255 bytes" gives "$no, fault 104: 257 bytes $first, exit 104" "$(answered "$(zeros 510)9000\n")"
+    holds "reader: a block of 257 bytes" gives "$no, fault 104: 259 bytes $first, exit 104" "$(answered "$(zeros 514)9000\n")"
+    holds "reader: a block that does not open" gives "$no, number 15, exit 1" "$(answered "$(zeros 512)9000\n")"
+    holds "reader: no final answer" gives "reader: line 2: nothing more can be read;$no, fault 102: $none final command, exit 102" "$(changed 1q)"
+    holds "reader: a final status" gives "$no, fault 103: status 6F00 to the final command, exit 103" "$(changed '2s/.*/6F00/')"
+    holds "reader: a final answer that is too long" gives "$no, fault 104: 114 bytes $last, exit 104" "$(changed "2s/.*/$(zeros 224)9000/")"
+    holds "reader: a final answer of a length that none has" gives "$no, number 18, exit 1" "$(changed "2s/.*/$(zeros 60)9000/")"
+    holds "reader: another final answer" gives "$no, number 20, exit 1" "$(changed "2s/.*/$(zeros 96)9000/")"
+}
+
+# A line on which a command that is answered 6F00 is sent again: a session in which the card's platform fails once.
+patient() { # KEYS
+    rm -f "$room/up" "$room/down" "$room/card-in" "$room/card-out"
+    mkfifo "$room/up" "$room/down" "$room/card-in" "$room/card-out"
+    timeout 60 "$ex/reader" 0007 "$1" >"$room/up" <"$room/down" 2>"$room/told" &
+    env "${card_env[@]}" timeout 60 "$ex/card" ${1:+"$1"} <"$room/card-in" >"$room/card-out" 2>"$room/complaints" &
+    local command answer
+    while read -r command; do
+        answer=6F00
+        while [ "$answer" = 6F00 ]; do
+            echo "$command" >&3
+            read -r answer <&4 || break
+        done
+        echo "$answer"
+    done <"$room/up" >"$room/down" 3>"$room/card-in" 4<"$room/card-out"
+    wait
+    grep -v STAND-IN "$room/told"
+}
+
+# The examples with a fault put in below the platform (seams.c).
+random_faults() {
+    local card_env=(FAULT=random:1) reader_env=() ex=$room/seams
+    holds "faults: a card without random bytes answers, and goes on" gives "6F00 6E00 exit 1" "$(card "$initial" 80870000)"
+    holds "faults: it names the line" complains "card: line 1: no random bytes, answered 6F00"
+    holds "faults: its reader hears of it" gives "reader: no record, fault 103: status 6F00 to the initial command, exit 103" "$(session "" 0007)"
+    card_env=(FAULT=random:2)
+    holds "faults: it keeps its session" gives "${record%,*}" "$(patient "")"
+    holds "faults: it named the final command" complains "card: line 2: no random bytes, answered 6F00"
+    card_env=() reader_env=(FAULT=random:1)
+    holds "faults: a reader without random bytes" gives "reader: no record, fault 105: the platform has no random bytes, exit 105" "$(session "" 0007)"
+}
+rsa_faults() { # KEYS
+    local card_env=(FAULT=public:1) reader_env=() ex=$room/seams keys=$1
+    holds "faults: a card without RSA answers, and goes on" gives "6F00 6E00 exit 1" "$(card "$initial" 80870000)"
+    holds "faults: it names the line, RSA" complains "card: line 1: RSA failed, answered 6F00"
+    holds "faults: it has its next session" gives "${record%,*}" "$(patient "$1")"
+    card_env=() reader_env=(FAULT=private:1)
+    holds "faults: RSA fails for another set" gives "$record" "$(session "$1" 0007)"
+    reader_env=(FAULT=private:2)
+    holds "faults: RSA fails for the card's set" gives "reader: no record, fault 106: the platform's RSA failed, exit 106" "$(session "$1" 0007)"
+}
+
+# told_erased END LINE..: what an end told of its erasing, in order and each line once
+told_erased() { gives "$(printf '%s\n' "${@:2}")" "$(LC_ALL=C sort -u "$room/$1-erased")"; }
+
+# The secrets that stood in what each end erased, and that nothing is left of them: the initial answer's block where RSA failed, too.
+erased() { # KEYS
+    local card_env=(ERASED="$room/card-erased") reader_env=(ERASED="$room/reader-erased") ex=$room/seams
+    rm -f "$room"/*-erased
+    holds "erased: a session" gives "$record" "$(session "$1" 0007)"
+    holds "erased: by the card" told_erased card "card FAKey" "card record" "card shill-key" "fresh RND1" "given shill-key" \
+        "loaded FAKey" "loaded record" "loaded shill-key" "outcome FAKey" "outcome RND1" "outcome record" "outcome shill-key"
+    holds "erased: by the reader" told_erased reader "accepting KeysHash" "blocks RND1" "session FAKey" "session KeysHash" "session RND1" \
+        "session RND2" "session record" "sets FAKey"
+    rm -f "$room"/*-erased
+    card_env+=(ERASE=no) reader_env+=(ERASE=no)
+    holds "erased: a session without erasing" gives "$record" "$(session "$1" 0007)"
+    holds "erased: where nothing is, it is seen" gives 0 "$(cat "$room"/*-erased | grep -vc 'NOT ERASED$')"
+    [ -n "$1" ] || return
+    rm -f "$room"/*-erased
+    card_env=(ERASED="$room/card-erased" FAULT=public:1)
+    session "$1" 0007 >"$room/out"
+    holds "erased: the block that was not encrypted" grep -qx 'answer RND1' "$room/card-erased"
+}
+
+# The reader's private key of set 0102 is another one.
+wrong_rsa_key() {
+    cp -r "$room/keys" "$room/other"
+    cp "$room/other/22-private.pem" "$room/other/11-private.pem"
+    holds "session, RSA: wrong private key" gives "reader: no record, number 15, exit 1" "$(session "$room/other" 0007)"
+}
