@@ -23,7 +23,7 @@ pub struct Found {
 }
 
 // A place against all eight slots, with no early end.
-fn compare_slots(sets: [KeySetSlot; 8], present: bool, v: KeySetId, sum: u32) -> Found
+fn compare_slots(sets: [KeySetSlot; Card::KEY_SETS], present: bool, v: KeySetId, sum: u32) -> Found
     ensures { λ r. ⌜ r ≡ slotsFound present v sets sum ⌝ }
 {
     let mut at = Card::KEY_SETS;
@@ -54,7 +54,7 @@ fn first_of(at: usize, f: usize) -> usize
 }
 
 // Every place of the list against every slot, missing places and empty slots too.
-fn compare_places(sets: [KeySetSlot; 8], d: &[u8]) -> Found
+fn compare_places(sets: [KeySetSlot; Card::KEY_SETS], d: &[u8]) -> Found
     requires { ⌜ length (now d) < 256 ⌝ }
     ensures { λ r. ⌜ r ≡ dataFound sets (now (d .entry)) ⌝ }
 {
