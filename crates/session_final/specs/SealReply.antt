@@ -15,9 +15,10 @@ use Rattle.padding.specs.Method2.{blocksFor, padded}
 use Rattle.padding.specs.Laws.{length-padded}
 use Rattle.cbc.specs.Cbc.{encrypted, zeros}
 use Rattle.cbc.specs.Laws.{encrypted-front}
-use Rattle.steps.specs.Made.{matched}
+use Rattle.steps.specs.Made.{modeMatched}
 use Rattle.plaid_types.specs.Cards.{noMode}
 use Rattle.plaid_types.specs.declared.KeySetId.{KeySetId}
+use Rattle.plaid_types.specs.declared.OpModeId.{OpModeId}
 use Rattle.plaid_types.specs.declared.ModeSlot.{ModeSlot}
 use Rattle.plaid_types.specs.declared.Card.{Card}
 use Rattle.load.specs.Laws.{modeAt, GoodRecord, Stocked}
@@ -28,25 +29,25 @@ use Rattle.session_final.specs.SealText.{SharedSession, sealed, seal-key
 use Rattle.session_final.specs.SealAccepted.{seal-slot, seal-accepted}
 
 -- a slot that was found matches: it is held, and its number is the one looked for
-pub record Found (m : ModeSlot) (v : ℕ) : Type 0 where
+pub record Found (m : ModeSlot) (v : OpModeId) : Type 0 where
   pub is-held : m .held ≡ true
-  pub is-mode : m .id .0 ≡ v
+  pub is-mode : m .id ≡ v
 
-found-by : (m : ModeSlot) (v : ℕ) → matched true v (m .held) (m .id .0) ≡ true → Found m v
+found-by : (m : ModeSlot) (v : OpModeId) → modeMatched v (m .held) (m .id) ≡ true → Found m v
 found-by m v e =
     let a = and-eq-true-iff _ _ .0 e in
-    record { is-held = a .0; is-mode = sym (eqb-true v (m .id .0) (a .1)) }
+    record { is-held = a .0; is-mode = ap (λ (n : ℕ). record { 0 = n }) (sym (eqb-true (v .0) (m .id .0) (a .1))) }
 
 -- the slots are counted from i: place n of the list is number i + n
 first-step : (i f : ℕ) (t : Bool) → suc i ≤ f → i ≤ cond t i f
 first-step i f true h = omega arith
 first-step i f false h = omega arith
 
-first-least : (v : ℕ) (ms : List ModeSlot) (i : ℕ) → i ≤ firstMode i v ms
+first-least : (v : OpModeId) (ms : List ModeSlot) (i : ℕ) → i ≤ firstMode i v ms
 first-least v [] i = omega arith
-first-least v (m ∷ ms) i = first-step i (firstMode (suc i) v ms) (matched true v (m .held) (m .id .0)) (first-least v ms (suc i))
+first-least v (m ∷ ms) i = first-step i (firstMode (suc i) v ms) (modeMatched v (m .held) (m .id)) (first-least v ms (suc i))
 
-found-step : (v : ℕ) (m : ModeSlot) (ms : List ModeSlot) (i f n : ℕ) (t : Bool) → matched true v (m .held) (m .id .0) ≡ t → suc i ≤ f →
+found-step : (v : OpModeId) (m : ModeSlot) (ms : List ModeSlot) (i f n : ℕ) (t : Bool) → modeMatched v (m .held) (m .id) ≡ t → suc i ≤ f →
     ((n : ℕ) → f ≡ suc i + n → n < length ms → Found (getD ms n noMode) v) →
     cond t i f ≡ i + n → n < suc (length ms) → Found (getD (m ∷ ms) n noMode) v
 found-step v m ms i f zero true q l r e h = found-by m v q
@@ -54,12 +55,12 @@ found-step v m ms i f (suc n) true q l r e h = absurd (omega arith)
 found-step v m ms i f zero false q l r e h = absurd (omega arith)
 found-step v m ms i f (suc n) false q l r e h = r n (omega arith) (omega arith)
 
-found-from : (v : ℕ) (ms : List ModeSlot) (i n : ℕ) → firstMode i v ms ≡ i + n → n < length ms → Found (getD ms n noMode) v
+found-from : (v : OpModeId) (ms : List ModeSlot) (i n : ℕ) → firstMode i v ms ≡ i + n → n < length ms → Found (getD ms n noMode) v
 found-from v [] i n e h = absurd (not-suc-le-zero h)
 found-from v (m ∷ ms) i n e h =
-    found-step v m ms i (firstMode (suc i) v ms) n (matched true v (m .held) (m .id .0)) refl (first-least v ms (suc i)) (λ j p q. found-from v ms (suc i) j p q) e h
+    found-step v m ms i (firstMode (suc i) v ms) n (modeMatched v (m .held) (m .id)) refl (first-least v ms (suc i)) (λ j p q. found-from v ms (suc i) j p q) e h
 
-pub first-found : (v : ℕ) (ms : List ModeSlot) → firstMode 0 v ms < length ms → Found (getD ms (firstMode 0 v ms) noMode) v
+pub first-found : (v : OpModeId) (ms : List ModeSlot) → firstMode 0 v ms < length ms → Found (getD ms (firstMode 0 v ms) noMode) v
 first-found v ms h = found-from v ms 0 (firstMode 0 v ms) (omega arith) h
 
 -- a record of at most 64 bytes is replied whole
@@ -72,13 +73,13 @@ encrypted-over : (ciph : List ℕ → List ℕ) (b s : List ℕ) (n : ℕ) → l
 encrypted-over ciph b s n e = ap (encrypted ciph zeros n) (over-front b s) ∙ encrypted-front ciph n zeros s (drop (length s) b) (omega arith)
 
 -- the record of the mode that Seal took
-abbrev pub sealedSlot : Card → ℕ → ModeSlot
+abbrev pub sealedSlot : Card → OpModeId → ModeSlot
 sealedSlot c mode = modeAt c (firstMode 0 mode (c .modes))
 
-abbrev pub sealedRecord : Card → ℕ → List ℕ
+abbrev pub sealedRecord : Card → OpModeId → List ℕ
 sealedRecord c mode = part (c .area) (sealedSlot c mode .start) (sealedSlot c mode .len)
 
-module _ (c : Card) (mode : ℕ) (g : Stocked c) (h : firstMode 0 mode (c .modes) < 16) where
+module _ (c : Card) (mode : OpModeId) (g : Stocked c) (h : firstMode 0 mode (c .modes) < 16) where
   -- the slot found is held and is Seal's mode
   pub sealed-found : Found (sealedSlot c mode) mode
   sealed-found = first-found mode (c .modes) (omega (arith, g .modes-long))
@@ -99,7 +100,7 @@ module _ (c : Card) (mode : ℕ) (g : Stocked c) (h : firstMode 0 mode (c .modes
       length-padded (sealedRecord c mode ++ c .«div_data»)
       ∙ ap (λ (n : ℕ). 16 * blocksFor n) (length-append (sealedRecord c mode) (c .«div_data») ∙ ap (λ (n : ℕ). length (sealedRecord c mode) + n) (g .div-long))
 
-module _ (c : Card) (i : KeySetId) (fa r1 r2 : List ℕ) (mode : ℕ) (payload : List ℕ) (k : SharedSession c i fa r1 r2 mode payload) (g : Stocked c)
+module _ (c : Card) (i : KeySetId) (fa r1 r2 : List ℕ) (mode : OpModeId) (payload : List ℕ) (k : SharedSession c i fa r1 r2 mode payload) (g : Stocked c)
     (h : firstMode 0 mode (c .modes) < 16) where
   key-is : replyKey c (sealed c fa r1 r2 mode payload) ≡ keysHashOf r1 r2
   unfolding replyKey
