@@ -146,8 +146,8 @@ pub struct Sealing {
 
 #[no_mangle]
 pub extern "C" fn plaid_seal(of: Sealing, payload: &[u8], out: &mut [u8]) -> Sealed
-    ensures told { λ r. ⌜ r ≡ sealedOf (of .«fa_key») (of .«div_data») (of .rnd1) (of .rnd2) (of .mode .0) (now (payload .entry)) (length (now (out .entry))) ⌝ }
-    ensures bytes { λ _. ⌜ now (out .exit) ≡ sealOutput (of .«fa_key») (of .«div_data») (of .rnd1) (of .rnd2) (of .mode .0) (now (payload .entry)) (now (out .entry)) ⌝ }
+    ensures told { λ r. ⌜ r ≡ sealedOf (of .«fa_key») (of .«div_data») (of .rnd1) (of .rnd2) (of .mode) (now (payload .entry)) (length (now (out .entry))) ⌝ }
+    ensures bytes { λ _. ⌜ now (out .exit) ≡ sealOutput (of .«fa_key») (of .«div_data») (of .rnd1) (of .rnd2) (of .mode) (now (payload .entry)) (now (out .entry)) ⌝ }
 {
     let fa_key = of.fa_key;
     let div_data = of.div_data;

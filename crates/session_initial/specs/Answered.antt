@@ -22,7 +22,7 @@ use Rattle.load.specs.Load.{some}
 use Rattle.load.specs.Laws.{Stocked}
 use Rattle.initial.specs.Initial.{firstSlot, firstPlace, slotOf, acceptsInitial, str1, blockOf, acceptedInitial, refusedInitial, initialReply}
 use Rattle.reader_list.specs.List.{numbers}
-use Rattle.session_initial.specs.Held.{noId, heldIn, held, firstOf, firstHeld, slot-missing, Holds, slot-holds, slot-none}
+use Rattle.session_initial.specs.Held.{heldIn, held, firstOf, firstHeld, slot-missing, Holds, slot-holds, slot-none}
 
 -- from place p on, the data list the KeySetIDs, and behind them there is no entry
 data Lists (d : List ℕ) : ℕ → List KeySetId → Type 0 where
@@ -33,11 +33,11 @@ length-numbers : (ids : List KeySetId) → length (numbers ids) ≡ length ids
 length-numbers ids = length-map ids (λ (k : KeySetId). k .0)
 
 -- the entry of a KeySetID in the encoding of the numbers
-entry-listed : (ids : List KeySetId) → length ids < 32 → (j : ℕ) → j < length ids → entryAt (encoded (numbers ids)) (2 + 4 * j) ≡ record { ok = true; id = getD ids j noId; next = 6 + 4 * j }
+entry-listed : (ids : List KeySetId) → length ids < 32 → (j : ℕ) → j < length ids → entryAt (encoded (numbers ids)) (2 + 4 * j) ≡ record { ok = true; id = getD ids j (noSet .id); next = 6 + 4 * j }
 entry-listed ids h j l =
     let n = length-numbers ids in
     encoded-entry (numbers ids) (omega arith) j (omega arith)
-    ∙ ap (λ (k : ℕ). record { ok = true; id = record { 0 = k }; next = 6 + 4 * j }) (List·getD-map (λ (k : KeySetId). k .0) ids j noId)
+    ∙ ap (λ (k : ℕ). record { ok = true; id = record { 0 = k }; next = 6 + 4 * j }) (List·getD-map (λ (k : KeySetId). k .0) ids j (noSet .id))
 
 encoded-lists : (ids : List KeySetId) → length ids < 32 → (m j : ℕ) → j + m ≡ length ids → Lists (encoded (numbers ids)) (2 + 4 * j) (drop j ids)
 encoded-lists ids h zero j e =
@@ -45,11 +45,11 @@ encoded-lists ids h zero j e =
     rw (q, drop-length ids) (none (past-entry (encoded (numbers ids)) (2 + 4 * length ids) (omega (arith, length-encoded (numbers ids), length-numbers ids))))
 encoded-lists ids h (suc m) j e =
     let q : 2 + 4 * suc j ≡ 6 + 4 * j = omega arith in
-    rw (drop-cons ids j noId (omega arith)) (more (entry-listed ids h j (omega arith)) (rw q at (encoded-lists ids h m (suc j) (omega arith))))
+    rw (drop-cons ids j (noSet .id) (omega arith)) (more (entry-listed ids h j (omega arith)) (rw q at (encoded-lists ids h m (suc j) (omega arith))))
 
 -- what the places' look finds: nothing, or the slot of the first listed that is held
 record Found (ss : List KeySetSlot) (ids : List KeySetId) (n : ℕ) : Type 0 where
-  pub some-held : some (heldIn ss) ids ≡ true → Holds ss n (getD ids (firstOf (heldIn ss) ids) noId)
+  pub some-held : some (heldIn ss) ids ≡ true → Holds ss n (getD ids (firstOf (heldIn ss) ids) (noSet .id))
   pub none-held : some (heldIn ss) ids ≡ false → n ≡ 8
 
 -- past the last entry nothing is found
@@ -60,7 +60,7 @@ place-end : (ss : List KeySetSlot) (d : List ℕ) (p n : ℕ) → length ss ≡ 
 unfolding firstPlace
 place-end ss d p zero l e = refl
 place-end ss d p (suc n) l e =
-    rw e (end-by (firstSlot 0 false noId ss) (firstPlace ss true d p n) (omega (arith, slot-missing 0 noId ss)) (place-end ss d p n l e))
+    rw e (end-by (firstSlot 0 false (noSet .id) ss) (firstPlace ss true d p n) (omega (arith, slot-missing 0 (noSet .id) ss)) (place-end ss d p n l e))
 
 found-by :
     (ss : List KeySetSlot) (k : KeySetId) (ids : List KeySetId) (n : ℕ) (t : Bool)
@@ -101,7 +101,7 @@ list-accepted c s ids h = below-by (c .sets) ids (slotOf c (encoded (numbers ids
 -- and then its slot is the one that holds the first listed that the card holds, wherever in the card it stands
 pub list-slot :
     (c : Card) → Stocked c → (ids : List KeySetId) → length ids < 32 → some (held c) ids ≡ true
-    → Holds (c .sets) (slotOf c (encoded (numbers ids))) (getD ids (firstHeld c ids) noId)
+    → Holds (c .sets) (slotOf c (encoded (numbers ids))) (getD ids (firstHeld c ids) (noSet .id))
 list-slot c s ids h q = slot-encoded c s ids h .some-held q
 
 -- the reply r answers for a slot that is held with KeySetID k
@@ -125,9 +125,9 @@ answers-by c d fresh k slot false e p q = absurd (false≢true e)
 -- the reply to a list of which the card holds some KeySetID: the block, the handle and the session are those of the first listed that it holds
 pub list-answered :
     (c : Card) → Stocked c → (ids : List KeySetId) (fresh : List ℕ) → length ids < 32 → some (held c) ids ≡ true
-    → Answers c fresh (getD ids (firstHeld c ids) noId) (getD (c .sets) (slotOf c (encoded (numbers ids))) noSet) (initialReply c (encoded (numbers ids)) fresh)
+    → Answers c fresh (getD ids (firstHeld c ids) (noSet .id)) (getD (c .sets) (slotOf c (encoded (numbers ids))) noSet) (initialReply c (encoded (numbers ids)) fresh)
 unfolding initialReply
 list-answered c s ids fresh h q =
     let a = list-slot c s ids h q in
-    answers-by c (encoded (numbers ids)) fresh (getD ids (firstHeld c ids) noId) (getD (c .sets) (slotOf c (encoded (numbers ids))) noSet) (acceptsInitial c (encoded (numbers ids)))
+    answers-by c (encoded (numbers ids)) fresh (getD ids (firstHeld c ids) (noSet .id)) (getD (c .sets) (slotOf c (encoded (numbers ids))) noSet) (acceptsInitial c (encoded (numbers ids)))
     (list-accepted c s ids h ∙ q) (a .kept) (a .id)

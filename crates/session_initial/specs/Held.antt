@@ -25,10 +25,6 @@ heldIn (s ∷ ss) k = setMatched true k (s .held) (s .id) || heldIn ss k
 abbrev pub held : Card → KeySetId → Bool
 held c k = heldIn (c .sets) k
 
--- what stands for a KeySetID past a list's end
-abbrev pub noId : KeySetId
-noId = noSet .id
-
 -- the place of the first of the list for which p holds; the list's length where there is none
 abbrev pub firstOf : (KeySetId → Bool) → List KeySetId → ℕ
 firstOf p [] = 0
@@ -121,10 +117,10 @@ slot-found c s k = below-by k (c .sets) (held c k) (s .sets-long) refl
 -- the first of a list for which p holds: it is in the list, p holds for it, and for none before it
 pub record IsFirst (p : KeySetId → Bool) (ids : List KeySetId) (n : ℕ) : Type 0 where
   pub within : n < length ids
-  pub good : p (getD ids n noId) ≡ true
-  pub before : (i : ℕ) → i < n → p (getD ids i noId) ≡ false
+  pub good : p (getD ids n (noSet .id)) ≡ true
+  pub before : (i : ℕ) → i < n → p (getD ids i (noSet .id)) ≡ false
 
-before-cons : (p : KeySetId → Bool) (k : KeySetId) (ids : List KeySetId) (n : ℕ) → p k ≡ false → IsFirst p ids n → (i : ℕ) → i < suc n → p (getD (k ∷ ids) i noId) ≡ false
+before-cons : (p : KeySetId → Bool) (k : KeySetId) (ids : List KeySetId) (n : ℕ) → p k ≡ false → IsFirst p ids n → (i : ℕ) → i < suc n → p (getD (k ∷ ids) i (noSet .id)) ≡ false
 before-cons p k ids n e f zero h = e
 before-cons p k ids n e f (suc i) h = f .before i (le-of-suc-le-suc h)
 
