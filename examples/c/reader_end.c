@@ -48,7 +48,7 @@ static int initial(const reader_plan *plan, reader_session *s)
 
 static int final(const reader_plan *plan, reader_session *s)
 {
-    uint8_t command[PLAID_FINAL_COMMAND_MOST], answer[PLAID_RESPONSE_MOST + 2];
+    uint8_t command[PLAID_FINAL_COMMAND_MOST], answer[PLAID_ANSWER_FINAL_MOST + 2];
     memcpy(s->sealing.fa_key, plan->sets[s->opened.place].fa_key, PLAID_KEY);
     memcpy(s->sealing.div_data, s->opened.div_data, PLAID_DIV_DATA);
     memcpy(s->sealing.rnd1, s->opened.rnd1, PLAID_RND);

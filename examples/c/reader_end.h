@@ -24,7 +24,7 @@ typedef struct {
     plaid_sealing sealing;
     plaid_sealed sealed;
     plaid_accepted accepted;
-    uint8_t work[PLAID_RESPONSE_MOST]; /* the record: its first accepted.length bytes */
+    uint8_t work[PLAID_ANSWER_FINAL_MOST]; /* the record: its first accepted.length bytes */
 } reader_session;
 
 /* Beside the numbers of plaid.h: the card or the platform gave no answer. */
