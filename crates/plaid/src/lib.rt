@@ -6,6 +6,7 @@ use plaid_types::KeySetId;
 use plaid_types::Mode;
 use plaid_types::OpModeId;
 use plaid_types::Outcome;
+use plaid_types::Reader;
 use reader_accept::Accepted;
 use reader_list::Written;
 use reader_open::Opened;
@@ -25,7 +26,7 @@ ghost use Rattle.plaid.specs.Interface.{blankSet, loadOf};
 // What a load is given beside the key sets and the record area. What stands past the count is not looked at.
 #[repr(C)]
 pub struct Given {
-    pub modes: [Mode; 16],
+    pub modes: [Mode; Card::MODES],
     pub mode_count: usize,
     pub div_data: [u8; 16],
     pub shill_key: [u8; 16],
@@ -113,7 +114,7 @@ pub extern "C" fn plaid_command(card: Card, command: &[u8], fresh: &[u8], out: &
 // The reader's KeySetIDs in order of preference: the first so many.
 #[repr(C)]
 pub struct Ids {
-    pub ids: [KeySetId; 16],
+    pub ids: [KeySetId; Reader::IDS],
     pub count: usize,
 }
 

@@ -65,9 +65,9 @@ impl Session {
 
 #[repr(C)]
 pub struct Card {
-    pub sets: [KeySetSlot; 8],
-    pub modes: [ModeSlot; 16],
-    pub area: [u8; 1024],
+    pub sets: [KeySetSlot; Card::KEY_SETS],
+    pub modes: [ModeSlot; Card::MODES],
+    pub area: [u8; Card::AREA],
     pub div_data: [u8; 16],
     pub shill_key: [u8; 16],
     pub shill_handle: u8,
