@@ -139,10 +139,10 @@ typedef char plaid_size_is_64_bits[sizeof(size_t) == 8 ? 1 : -1];
 #define PLAID_FINAL_COMMAND_MOST 246    /* Seal's command, payload of 205 */
 
 #define PLAID_ANSWER_INITIAL 256        /* answer to an initial command */
-#define PLAID_REPLY_LEAST 2             /* reply size B, in blocks of 16 */
-#define PLAID_REPLY_MOST 6
-#define PLAID_RESPONSE_LEAST 32         /* answer to a final command: 16 B, */
-#define PLAID_RESPONSE_MOST 96          /* so 32, 48, 64, 80 or 96 */
+#define PLAID_CARD_REPLY_LEAST 2        /* reply size B, in blocks of 16 */
+#define PLAID_CARD_REPLY_MOST 6
+#define PLAID_ANSWER_FINAL_LEAST 32     /* answer to a final command: 16 B, */
+#define PLAID_ANSWER_FINAL_MOST 96      /* so 32, 48, 64, 80 or 96 */
 
 /*
  * Status of a command's answer (ISO/IEC 7816-4)

@@ -35,7 +35,7 @@ static long exchange(void *line, const uint8_t *command, size_t command_len, uin
 static bool send_random_final(bench *b)
 {
     uint8_t command[PLAID_FINAL_COMMAND_LEAST] = {0x00, PLAID_INS_FINAL, 0x00, 0x00, PLAID_FINAL_COMMAND_LEAST - 6};
-    uint8_t answer[PLAID_RESPONSE_MOST + 2];
+    uint8_t answer[PLAID_ANSWER_FINAL_MOST + 2];
     return platform_random(command + 5, sizeof command - 6) && exchange(b, command, sizeof command, answer, sizeof answer) > 0;
 }
 

@@ -77,7 +77,7 @@ static int accept_answer(reader_session *s, const uint8_t *answer, size_t length
 
 static int final(const reader_plan *plan, reader_session *s)
 {
-    uint8_t command[PLAID_FINAL_COMMAND_MOST], answer[PLAID_RESPONSE_MOST + 2];
+    uint8_t command[PLAID_FINAL_COMMAND_MOST], answer[PLAID_ANSWER_FINAL_MOST + 2];
     size_t length;
     memcpy(s->sealing.fa_key, plan->sets[s->opened.place].fa_key, PLAID_KEY);
     memcpy(s->sealing.div_data, s->opened.div_data, PLAID_DIV_DATA);

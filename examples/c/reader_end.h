@@ -24,7 +24,7 @@ typedef struct {
     plaid_sealing sealing;
     plaid_sealed sealed;
     plaid_accepted accepted;
-    uint8_t work[PLAID_RESPONSE_MOST];
+    uint8_t work[PLAID_ANSWER_FINAL_MOST];
     plaid_part record;                 /* of the work buffer; empty where there is none */
     uint8_t ins;                       /* of the last command sent */
     long answered;                     /* its answer's length with the status; -1: none */

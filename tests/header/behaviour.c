@@ -259,9 +259,9 @@ static plaid_loaded load_record(size_t start, size_t len, size_t area_len)
 static void load_records(void)
 {
     CHECK(load_record(0, 0, 100).number == PLAID_DECLINE_RECORD);
-    CHECK(load_record(0, 1, 100).card.reply_size == PLAID_REPLY_LEAST);
+    CHECK(load_record(0, 1, 100).card.reply_size == PLAID_CARD_REPLY_LEAST);
     CHECK(load_record(0, 15, 100).card.reply_size == 2 && load_record(0, 16, 100).card.reply_size == 3);
-    CHECK(load_record(0, PLAID_CARD_RECORD, 100).card.reply_size == PLAID_REPLY_MOST);
+    CHECK(load_record(0, PLAID_CARD_RECORD, 100).card.reply_size == PLAID_CARD_REPLY_MOST);
     CHECK(load_record(0, PLAID_CARD_RECORD + 1, 100).number == PLAID_DECLINE_RECORD);
     CHECK(load_record(60, 40, 100).number == PLAID_DONE);
     CHECK(load_record(61, 40, 100).number == PLAID_DECLINE_RECORD);
@@ -689,7 +689,7 @@ static void session(void)
     load_case l = full_load();
     call_case c;
     plaid_outcome o = final_answer(&l, &c);
-    uint8_t work[PLAID_RESPONSE_MOST];
+    uint8_t work[PLAID_ANSWER_FINAL_MOST];
     size_t record = l.given.modes[3].len;
     CHECK(o.answer.number == PLAID_DONE && o.answer.status == PLAID_ANSWER_OK && o.answer.handle == 0);
     CHECK(counts_are(&o.answer, 16, 15, 6, 3, 1) && o.answer.length == 80 && o.sum != 0);
@@ -710,7 +710,7 @@ static void accept_declined(void)
 {
     load_case l = full_load();
     call_case c;
-    uint8_t work[PLAID_RESPONSE_MOST];
+    uint8_t work[PLAID_ANSWER_FINAL_MOST];
     final_answer(&l, &c);
     memset(work, CANARY, sizeof work);
     CHECK(accept(l.given.div_data, c.out, 81, work, 0).number == PLAID_DECLINE_RESPONSE);
@@ -720,10 +720,10 @@ static void accept_declined(void)
     CHECK(a.number == PLAID_DECLINE_AUTHENTICATION && a.length == 0);
     CHECK(record_part(work, sizeof work, a).start == 0 && record_part(work, sizeof work, a).length == 0);
     CHECK(all(work, 80, 0) && all(work + 80, sizeof work - 80, CANARY));
-    CHECK(accept(l.given.shill_key, c.out, PLAID_RESPONSE_LEAST, work, sizeof work).number == PLAID_DECLINE_AUTHENTICATION);
-    CHECK(accept(l.given.shill_key, c.out, PLAID_RESPONSE_MOST, work, sizeof work).number == PLAID_DECLINE_AUTHENTICATION);
-    for (size_t n = 0; n <= 2 * PLAID_RESPONSE_MOST; n++) {
-        bool known = n % 16 == 0 && n >= PLAID_RESPONSE_LEAST && n <= PLAID_RESPONSE_MOST;
+    CHECK(accept(l.given.shill_key, c.out, PLAID_ANSWER_FINAL_LEAST, work, sizeof work).number == PLAID_DECLINE_AUTHENTICATION);
+    CHECK(accept(l.given.shill_key, c.out, PLAID_ANSWER_FINAL_MOST, work, sizeof work).number == PLAID_DECLINE_AUTHENTICATION);
+    for (size_t n = 0; n <= 2 * PLAID_ANSWER_FINAL_MOST; n++) {
+        bool known = n % 16 == 0 && n >= PLAID_ANSWER_FINAL_LEAST && n <= PLAID_ANSWER_FINAL_MOST;
         unsigned number = accept(l.given.shill_key, c.out, n, work, sizeof work).number;
         CHECK(number == (known ? PLAID_DECLINE_AUTHENTICATION : PLAID_DECLINE_RESPONSE));
     }
@@ -732,7 +732,7 @@ static void accept_declined(void)
 /* The front of a work buffer, of any length that an answer may say, and never outside. Nothing is written. */
 static bool record_is(size_t room, size_t said, size_t length)
 {
-    uint8_t work[PLAID_RESPONSE_MOST];
+    uint8_t work[PLAID_ANSWER_FINAL_MOST];
     plaid_accepted of = {.number = PLAID_DONE, .length = said};
     memset(work, CANARY, sizeof work);
     plaid_part p = plaid_record(work, room, of);
@@ -741,7 +741,7 @@ static bool record_is(size_t room, size_t said, size_t length)
 
 static void record_parts(void)
 {
-    for (size_t room = 0; room <= PLAID_RESPONSE_MOST; room += 16) {
+    for (size_t room = 0; room <= PLAID_ANSWER_FINAL_MOST; room += 16) {
         CHECK(record_is(room, 0, 0));
         CHECK(record_is(room, room / 2, room / 2));
         CHECK(record_is(room, room, room));

@@ -82,7 +82,22 @@ fn read_source(crates: &str) -> Source {
             read_constants(&text, &mut source.constants);
         }
     }
+    for (_, of) in source.structs.values_mut().flatten() {
+        *of = with_length(of, &source.constants);
+    }
     source
+}
+
+/// An array type whose length is a constant of a struct, with the constant's value.
+fn with_length(of: &str, constants: &BTreeMap<String, Vec<(String, String)>>) -> String {
+    match array(of).and_then(|(element, count)| Some((element, count.split_once("::")?))) {
+        Some((element, (name, label))) => {
+            let value = constants.get(name).into_iter().flatten().find(|(l, _)| l == label);
+            let (_, value) = value.unwrap_or_else(|| panic!("no constant {name}::{label}"));
+            format!("[{element}; {value}]")
+        }
+        None => of.to_string(),
+    }
 }
 
 fn read_functions(text: &str) -> Vec<Function> {

@@ -96,7 +96,7 @@ pub fn command(card: Card, cmd: &[u8], fresh: &[u8], out: &mut [u8]) -> Outcome
 {
     let v = frame::check(cmd, fresh, out.len());
     let status = v.status;
-    if status != 0x9000 {
+    if status != Answer::OK {
         return decline(card, v);
     }
     let d = data_of(cmd);

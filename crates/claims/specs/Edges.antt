@@ -11,6 +11,7 @@ use Rattle.cbc.specs.Cbc.{zeros, encrypted}
 use Rattle.padding.specs.Method2.{rightly, unpadded}
 use Rattle.padding.specs.declared.Unpadded.the-variants.{Text, Malformed}
 use Rattle.plaid_types.specs.Cards.{noSession, withSession}
+use Rattle.plaid_types.specs.declared.OpModeId.{OpModeId}
 use Rattle.plaid_types.specs.declared.Session.{Session}
 use Rattle.plaid_types.specs.declared.Card.{Card}
 use Rattle.load.specs.Laws.{pastSet, pastMode}
@@ -105,7 +106,7 @@ pub record SealedWith (lc : ℕ) (r : Sealed) (out : List ℕ) : Type 0 where
 
 abbrev pub Seals : ℕ → ℕ → Type 0
 Seals p lc =
-    (fa div rnd1 rnd2 : List ℕ) (mode : ℕ) (payload out : List ℕ) → length payload ≡ p → lc + 6 ≤ length out →
+    (fa div rnd1 rnd2 : List ℕ) (mode : OpModeId) (payload out : List ℕ) → length payload ≡ p → lc + 6 ≤ length out →
     SealedWith lc (sealedOf fa div rnd1 rnd2 mode payload (length out)) (sealOutput fa div rnd1 rnd2 mode payload out)
 
 -- a last block behind any whole blocks s: "good", and then the text is s, or "bad"

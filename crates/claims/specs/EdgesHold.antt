@@ -16,6 +16,7 @@ use Rattle.padding.specs.Method2.{zeroBytes, padded, rightly, unpadded}
 use Rattle.padding.specs.Laws.{Seen, seen, rightly-seen, seen-none, unpadded-padded, textEnd-le}
 use Rattle.padding.specs.declared.Unpadded.the-variants.{Text, Malformed}
 use Rattle.plaid_types.specs.Cards.{withSession, Reply}
+use Rattle.plaid_types.specs.declared.KeySetId.{KeySetId}
 use Rattle.plaid_types.specs.declared.KeySetSlot.{KeySetSlot}
 use Rattle.plaid_types.specs.declared.ModeSlot.{ModeSlot}
 use Rattle.plaid_types.specs.declared.Session.{Session}
@@ -42,6 +43,10 @@ use Rattle.claims.specs.Loaded.{is-a-load, sound, set-slot, slot-given, 
 use Rattle.claims.specs.Loads.{set, given, area, load-of, one-key, two-keys}
 use Rattle.claims.specs.Found.{held-there}
 use Rattle.claims.specs.Edges.{Of, OfAll, Gave, framed, Lent, EachCall, Answered, Refused, FinalRefused, Final, Records, Size, Seals, Good, Bad, edges, All, end, _and_}
+
+-- a KeySetID by its number
+abbrev idOf : ℕ → KeySetId
+idOf k = record { 0 = k }
 
 -- the load's card with any session
 sound-in : (l : Load) (s : Session) → length (s .rnd1) ≡ 16 → Sound (withSession (cardOf l) s)
@@ -141,7 +146,7 @@ module _ (l : Load) (d : List ℕ) (f : Frames 0x87 d) (s : Session) (fresh : Li
   initial-shape = call-shape l 0x87 d f s fresh room lr t
 
   -- for which slot n of KeySetID k is found
-  answered : (k n : ℕ) → slotOf (withSession (cardOf l) s) d ≡ n → Holds (cardOf l .sets) n k →
+  answered : (k n : ℕ) → slotOf (withSession (cardOf l) s) d ≡ n → Holds (cardOf l .sets) n (idOf k) →
       Answered l k (8 * (length d / 4)) (withSession (cardOf l) s) (record { command = framed 0x87 d; fresh = fresh; room = room })
   unfolding reply initialReply str1
   answered k n e h =
@@ -154,12 +159,12 @@ module _ (l : Load) (d : List ℕ) (f : Frames 0x87 d) (s : Session) (fresh : Li
         status = ap (λ (y : Shape). y .status) initial-shape;
         comparisons = ap (λ (y : Shape). y .comparisons) initial-shape;
         place = n;
-        gave = record { within = g; id = sym (ap (λ (y : KeySetSlot). y .id .0) q) ∙ h .id };
+        gave = record { within = g; id = sym (ap (λ (y : KeySetSlot). y .id .0) q) ∙ ap (λ (y : KeySetId). y .0) (h .id) };
         handle = call-handle l 0x87 d f s fresh room lr t ∙ rw (b, e) (ap (λ (y : KeySetSlot). y .handle) q);
         card =
             call-card l 0x87 d f s fresh room lr t
-            ∙ rw (b, e) (ap (λ (j : ℕ). withSession (cardOf l) (record { opened = true; id = record { 0 = j }; rnd1 = part fresh 0 16 })) (h .id));
-        block = call-bytes l 0x87 d f s fresh room lr t ∙ rw (b, e, h .id, div-given l) (block-is fresh (str1 k (l .given .«div_data») (part fresh 0 16)));
+            ∙ rw (b, e) (ap (λ (j : KeySetId). withSession (cardOf l) (record { opened = true; id = j; rnd1 = part fresh 0 16 })) (h .id));
+        block = call-bytes l 0x87 d f s fresh room lr t ∙ rw (b, e, h .id, div-given l) (block-is fresh (str1 (idOf k) (l .given .«div_data») (part fresh 0 16)));
       }
 
   refused : acceptsInitial (withSession (cardOf l) s) d ≡ false →
@@ -176,35 +181,35 @@ module _ (l : Load) (d : List ℕ) (f : Frames 0x87 d) (s : Session) (fresh : Li
       }
 
 -- "set k held": the look for k finds a slot that holds it
-holds : (l : Load) (i k : ℕ) → Gave l i k → Holds (cardOf l .sets) (firstSlot 0 true k (cardOf l .sets)) k
+holds : (l : Load) (i k : ℕ) → Gave l i k → Holds (cardOf l .sets) (firstSlot 0 true (idOf k) (cardOf l .sets)) (idOf k)
 holds l i k g =
     let e = set-slot l i (g .within) in
     let n = is-a-load l .stocked .sets-long in
     let w = sets-most l in
-    slot-holds k (cardOf l .sets) n
-    (held-there (cardOf l .sets) k i (omega (arith, g .within)) (ap (λ (y : KeySetSlot). y .held) e) (ap (λ (y : KeySetSlot). y .id .0) e ∙ g .id))
+    slot-holds (idOf k) (cardOf l .sets) n
+    (held-there (cardOf l .sets) (idOf k) i (omega (arith, g .within)) (ap (λ (y : KeySetSlot). y .held) e) (ap (λ (y : KeySetSlot). y .id) e ∙ ap idOf (g .id)))
 
 -- data whose first entry is k
 record Names (d : List ℕ) (k : ℕ) : Type 0 where
   frames : Frames 0x87 d
-  slot : (c : Card) → firstSlot 0 true k (c .sets) < 8 → slotOf c d ≡ firstSlot 0 true k (c .sets)
+  slot : (c : Card) → firstSlot 0 true (idOf k) (c .sets) < 8 → slotOf c d ≡ firstSlot 0 true (idOf k) (c .sets)
 
 answers : (d : List ℕ) (k : ℕ) → Names d k → (l : Load) (i : ℕ) → Gave l i k → EachCall l (framed 0x87 d) (Answered l k (8 * (length d / 4)))
 answers d k m l i g s fresh room lr t =
     let h = holds l i k g in
-    answered l d (m .frames) s fresh room lr t k (firstSlot 0 true k (cardOf l .sets)) (m .slot (withSession (cardOf l) s) (h .below)) h
+    answered l d (m .frames) s fresh room lr t k (firstSlot 0 true (idOf k) (cardOf l .sets)) (m .slot (withSession (cardOf l) s) (h .below)) h
 
 names-one : Names (0x30 ∷ 4 ∷ 4 ∷ 2 ∷ 0 ∷ 1 ∷ []) 1
 unfolding statusOf whole frameOf dataOf part slotOf firstPlace listed head walked entryAt lengthAt
-names-one = record { frames = record { status = refl; data-is = refl }; slot = λ c h. rw (ne-eqb (firstSlot 0 true 1 (c .sets)) 8 (λ z. omega arith)) }
+names-one = record { frames = record { status = refl; data-is = refl }; slot = λ c h. rw (ne-eqb (firstSlot 0 true (idOf 1) (c .sets)) 8 (λ z. omega arith)) }
 
 names-five : Names (0x30 ∷ 8 ∷ 4 ∷ 2 ∷ 0 ∷ 5 ∷ 4 ∷ 2 ∷ 0 ∷ 2 ∷ []) 5
 unfolding statusOf whole frameOf dataOf part slotOf firstPlace listed head walked entryAt lengthAt
-names-five = record { frames = record { status = refl; data-is = refl }; slot = λ c h. rw (ne-eqb (firstSlot 0 true 5 (c .sets)) 8 (λ z. omega arith)) }
+names-five = record { frames = record { status = refl; data-is = refl }; slot = λ c h. rw (ne-eqb (firstSlot 0 true (idOf 5) (c .sets)) 8 (λ z. omega arith)) }
 
 names-one-81 : Names (0x30 ∷ 0x81 ∷ 4 ∷ 4 ∷ 2 ∷ 0 ∷ 1 ∷ []) 1
 unfolding statusOf whole frameOf dataOf part slotOf firstPlace listed head walked entryAt lengthAt
-names-one-81 = record { frames = record { status = refl; data-is = refl }; slot = λ c h. rw (ne-eqb (firstSlot 0 true 1 (c .sets)) 8 (λ z. omega arith)) }
+names-one-81 = record { frames = record { status = refl; data-is = refl }; slot = λ c h. rw (ne-eqb (firstSlot 0 true (idOf 1) (c .sets)) 8 (λ z. omega arith)) }
 
 one-edge : Of (λ l. (i : ℕ) × Gave l i 1) (λ l. EachCall l (framed 0x87 (0x30 ∷ 4 ∷ 4 ∷ 2 ∷ 0 ∷ 1 ∷ [])) (Answered l 1 8))
 one-edge = ((load-16 .0, (0, load-16 .1 .1)), λ l p. answers _ 1 names-one l (p .0) (p .1))

@@ -9,9 +9,10 @@ use lib.Dec.{eqb, ltb}
 use lib.ListN.{length, getD}
 use borrow.Author.Tests.{eqb-true, eq-eqb, ltb-true, ltb-false}
 use Rattle.octets.specs.Lists.{part}
-use Rattle.steps.specs.Made.{matched}
+use Rattle.steps.specs.Made.{setMatched, modeMatched}
 use Rattle.plaid_types.specs.Cards.{noSet, noMode}
 use Rattle.plaid_types.specs.declared.KeySetId.{KeySetId}
+use Rattle.plaid_types.specs.declared.OpModeId.{OpModeId}
 use Rattle.plaid_types.specs.declared.KeySetSlot.{KeySetSlot}
 use Rattle.plaid_types.specs.declared.ModeSlot.{ModeSlot}
 use Rattle.plaid_types.specs.declared.Card.{Card}
@@ -21,6 +22,7 @@ use Rattle.initial.specs.Initial.{firstSlot}
 use Rattle.final_command.specs.Final.{firstMode}
 use Rattle.reader_list.specs.List.{given, listCommand, listNumber, listed, listOutput}
 use Rattle.reader_list.specs.declared.Written.{Written}
+use Rattle.reader_open.specs.Open.{noId}
 use Rattle.reader_seal.specs.Seal.{keysHashOf, sealCommand, sealNumber, sealDeclined, sealedOf, sealOutput}
 use Rattle.reader_seal.specs.declared.Sealed.{Sealed}
 use Rattle.session_initial.specs.Held.{heldIn, held, firstOf, Holds, slot-holds, IsFirst, first-is}
@@ -41,37 +43,37 @@ or-right true b e = refl
 or-right false b e = e
 
 -- a KeySetID is held where a slot holds it
-pub held-there : (ss : List KeySetSlot) (k j : ℕ) → j < length ss → getD ss j noSet .held ≡ true → getD ss j noSet .id .0 ≡ k → heldIn ss k ≡ true
+pub held-there : (ss : List KeySetSlot) (k : KeySetId) (j : ℕ) → j < length ss → getD ss j noSet .held ≡ true → getD ss j noSet .id ≡ k → heldIn ss k ≡ true
 held-there [] k j h a b = absurd (not-suc-le-zero h)
-held-there (s ∷ ss) k zero h a b = rw (a, eq-eqb k (s .id .0) (sym b))
-held-there (s ∷ ss) k (suc j) h a b = or-right (matched true k (s .held) (s .id .0)) (heldIn ss k) (held-there ss k j (le-of-suc-le-suc h) a b)
+held-there (s ∷ ss) k zero h a b = rw (a, eq-eqb (k .0) (s .id .0) (sym (ap (λ (x : KeySetId). x .0) b)))
+held-there (s ∷ ss) k (suc j) h a b = or-right (setMatched true k (s .held) (s .id)) (heldIn ss k) (held-there ss k j (le-of-suc-le-suc h) a b)
 
 -- and nowhere else
 nowhere-by :
-    (ss : List KeySetSlot) (k : ℕ) (t : Bool)
+    (ss : List KeySetSlot) (k : KeySetId) (t : Bool)
     → length ss ≡ 8
     → heldIn ss k ≡ t
-    → ((j : ℕ) → getD ss j noSet .held ≡ true → getD ss j noSet .id .0 ≡ k → ⊥)
+    → ((j : ℕ) → getD ss j noSet .held ≡ true → getD ss j noSet .id ≡ k → ⊥)
     → t ≡ false
 nowhere-by ss k true l e f = let w = slot-holds k ss l e in absurd (f (firstSlot 0 true k ss) (w .kept) (w .id))
 nowhere-by ss k false l e f = refl
 
-some-at : (p : ℕ → Bool) (ids : List ℕ) (n : ℕ) (t : Bool) → some p ids ≡ t → n < length ids → p (getD ids n 0) ≡ true → t ≡ true
+some-at : (p : KeySetId → Bool) (ids : List KeySetId) (n : ℕ) (t : Bool) → some p ids ≡ t → n < length ids → p (getD ids n noId) ≡ true → t ≡ true
 some-at p ids n true e h q = refl
-some-at p ids n false e h q = absurd (true≢false (sym q ∙ some-none p ids 0 n e h))
+some-at p ids n false e h q = absurd (true≢false (sym q ∙ some-none p ids noId n e h))
 
-first-unique : (p : ℕ → Bool) (ids : List ℕ) (a b : ℕ) → IsFirst p ids a → IsFirst p ids b → a ≡ b
+first-unique : (p : KeySetId → Bool) (ids : List KeySetId) (a b : ℕ) → IsFirst p ids a → IsFirst p ids b → a ≡ b
 first-unique p ids a b u v = level a b (λ h. true≢false (sym (u .good) ∙ v .before a h)) (λ h. true≢false (sym (v .good) ∙ u .before b h))
 
 -- the listed KeySetID at place n is held by slot j, and no earlier one is held: n is the place of the first that the card holds
-module _ (c : Card) (g : Stocked c) (ids : List ℕ) (n j : ℕ) (h : n < length ids) (below : j < 8) (kept : setAt c j .held ≡ true) (id : setAt c j .id .0 ≡ getD ids n 0)
-    (none : (i m : ℕ) → i < n → setAt c m .held ≡ true → setAt c m .id .0 ≡ getD ids i 0 → ⊥) where
+module _ (c : Card) (g : Stocked c) (ids : List KeySetId) (n j : ℕ) (h : n < length ids) (below : j < 8) (kept : setAt c j .held ≡ true) (id : setAt c j .id ≡ getD ids n noId)
+    (none : (i m : ℕ) → i < n → setAt c m .held ≡ true → setAt c m .id ≡ getD ids i noId → ⊥) where
   is-first : IsFirst (held c) ids n
   is-first =
       record {
         within = h;
-        good = held-there (c .sets) (getD ids n 0) j (omega (arith, g .sets-long)) kept id;
-        before = λ i q. nowhere-by (c .sets) (getD ids i 0) (held c (getD ids i 0)) (g .sets-long) refl (λ m. none i m q);
+        good = held-there (c .sets) (getD ids n noId) j (omega (arith, g .sets-long)) kept id;
+        before = λ i q. nowhere-by (c .sets) (getD ids i noId) (held c (getD ids i noId)) (g .sets-long) refl (λ m. none i m q);
       }
 
   pub listed-held : some (held c) ids ≡ true
@@ -81,24 +83,24 @@ module _ (c : Card) (g : Stocked c) (ids : List ℕ) (n j : ℕ) (h : n < length
   place-is = first-unique (held c) ids (firstOf (held c) ids) n (first-is (held c) ids listed-held) is-first
 
 -- two slots that hold one KeySetID are one
-pub slot-unique : (c : Card) → Stocked c → (k : ℕ) {i j : ℕ} → Holds (c .sets) i k → Holds (c .sets) j k → i ≡ j
+pub slot-unique : (c : Card) → Stocked c → (k : KeySetId) {i j : ℕ} → Holds (c .sets) i k → Holds (c .sets) j k → i ≡ j
 slot-unique c g k {i} {j} v w =
-    level i j (λ h. g .set-once i j h (v .kept) (w .kept) (v .id ∙ sym (w .id))) (λ h. g .set-once j i h (w .kept) (v .kept) (w .id ∙ sym (v .id)))
+    level i j (λ h. g .set-once i j h (v .kept) (w .kept) (ap (λ (x : KeySetId). x .0) (v .id ∙ sym (w .id)))) (λ h. g .set-once j i h (w .kept) (v .kept) (ap (λ (x : KeySetId). x .0) (w .id ∙ sym (v .id))))
 
 -- the slot that holds a mode is the first that matches it
 first-step : (i m f : ℕ) (t : Bool) → f ≤ suc i + m → cond t i f ≤ i + suc m
 first-step i m f true h = omega arith
 first-step i m f false h = omega arith
 
-first-most : (v : ℕ) (ms : List ModeSlot) (i m : ℕ) → m < length ms → matched true v (getD ms m noMode .held) (getD ms m noMode .id .0) ≡ true → firstMode i v ms ≤ i + m
+first-most : (v : OpModeId) (ms : List ModeSlot) (i m : ℕ) → m < length ms → modeMatched v (getD ms m noMode .held) (getD ms m noMode .id) ≡ true → firstMode i v ms ≤ i + m
 first-most v [] i m h e = absurd (not-suc-le-zero h)
 first-most v (x ∷ ms) i zero h e = rw e (omega arith)
 first-most v (x ∷ ms) i (suc m) h e =
-    first-step i m (firstMode (suc i) v ms) (matched true v (x .held) (x .id .0)) (first-most v ms (suc i) m (le-of-suc-le-suc h) e)
+    first-step i m (firstMode (suc i) v ms) (modeMatched v (x .held) (x .id)) (first-most v ms (suc i) m (le-of-suc-le-suc h) e)
 
-module _ (c : Card) (g : Stocked c) (v m : ℕ) (h : m < 16) (kept : modeAt c m .held ≡ true) (id : modeAt c m .id .0 ≡ v) where
+module _ (c : Card) (g : Stocked c) (v : OpModeId) (m : ℕ) (h : m < 16) (kept : modeAt c m .held ≡ true) (id : modeAt c m .id ≡ v) where
   most : firstMode 0 v (c .modes) ≤ m
-  most = omega (arith, first-most v (c .modes) 0 m (omega (arith, g .modes-long)) (rw (kept, eq-eqb v (modeAt c m .id .0) (sym id))))
+  most = omega (arith, first-most v (c .modes) 0 m (omega (arith, g .modes-long)) (rw (kept, eq-eqb (v .0) (modeAt c m .id .0) (sym (ap (λ (x : OpModeId). x .0) id)))))
 
   pub mode-found : firstMode 0 v (c .modes) < 16
   mode-found = omega (arith, most)
@@ -106,7 +108,7 @@ module _ (c : Card) (g : Stocked c) (v m : ℕ) (h : m < 16) (kept : modeAt c m 
   pub mode-is : firstMode 0 v (c .modes) ≡ m
   mode-is =
       let w = first-found v (c .modes) (omega (arith, mode-found, g .modes-long)) in
-      level (firstMode 0 v (c .modes)) m (λ q. g .mode-once (firstMode 0 v (c .modes)) m q (w .is-held) kept (w .is-mode ∙ sym id)) (λ q. omega (arith, most))
+      level (firstMode 0 v (c .modes)) m (λ q. g .mode-once (firstMode 0 v (c .modes)) m q (w .is-held) kept (ap (λ (x : OpModeId). x .0) (w .is-mode ∙ sym id))) (λ q. omega (arith, most))
 
 -- List's command, in its output
 list-zero : (n k : ℕ) (t : Bool) → eqb n 0 ≡ t → cond {A = Written} t (record { number = 0; length = k }) (record { number = n; length = 0 }) .number ≡ 0 → n ≡ 0
@@ -127,7 +129,7 @@ seal-zero : (n : ℕ) (s : Sealed) (t : Bool) → eqb n 0 ≡ t → cond {A = Se
 seal-zero n s true e z = eqb-true n 0 e
 seal-zero n s false e z = z
 
-module _ (fa div r1 r2 : List ℕ) (mode : ℕ) (payload out : List ℕ) (z : sealedOf fa div r1 r2 mode payload (length out) .number ≡ 0) where
+module _ (fa div r1 r2 : List ℕ) (mode : OpModeId) (payload out : List ℕ) (z : sealedOf fa div r1 r2 mode payload (length out) .number ≡ 0) where
   seal-number : sealNumber (length payload) (length out) ≡ 0
   unfolding sealedOf
   seal-number =

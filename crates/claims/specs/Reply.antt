@@ -33,7 +33,7 @@ left l xs = cardAfter (cardOf l) xs
 pub record AcceptedFinal (l : Load) (xs : List Call) (x : Call) : Type 0 where
   pub at : ℕ
   pub given : at < l .given .«mode_count»
-  pub named : getD (l .given .modes) at pastMode .id .0 ≡ opMode (textOf (left l xs) (dataOf (x .command)))
+  pub named : getD (l .given .modes) at pastMode .id ≡ opMode (textOf (left l xs) (dataOf (x .command)))
   pub fills :
       length (padded (part (l .area) (getD (l .given .modes) at pastMode .start) (getD (l .given .modes) at pastMode .len) ++ l .given .«div_data»))
       ≡ 16 * cardOf l .«reply_size»
@@ -111,7 +111,7 @@ module _ (l : Load) (xs : List Call) (x : Call) (goes : isDeclined x ≡ false) 
         record {
           at = at;
           given = counted;
-          named = sym (ap (λ (s : ModeSlot). s .id .0) mode-is) ∙ reply .is-mode;
+          named = sym (ap (λ (s : ModeSlot). s .id) mode-is) ∙ reply .is-mode;
           fills = sym (ap (λ (s : List ℕ). length (padded s)) text-is) ∙ reply .fills ∙ ap (λ (n : ℕ). 16 * n) size-is;
           answered =
               bytes-are

@@ -2,11 +2,11 @@
 -- to the record that the load was given. Assumes nothing.
 use mathlib.Core.Path.{_≡_, refl, sym, ap, ap₂, _∙_, subst}
 use mathlib.Core.Bool.{Bool, true, false}
-use mathlib.Core.List.{List, map}
+use mathlib.Core.List.{List}
 use Prim.Native.Nat.{ℕ, _<_, _≤_}
 use native.Mathlib.Omega.{arith}
 use lib.Dec.{ltb}
-use lib.ListN.{length, getD, length-map, List·getD-map, List·getD-eq-default}
+use lib.ListN.{length, getD, take, List·getD-map, List·getD-eq-default}
 use lib.Seq.{getD-take, length-take-le}
 use borrow.Author.Tests.{ltb-true, ltb-false}
 use Rattle.octets.specs.Bytes.{Bytes, Block}
@@ -19,13 +19,13 @@ use Rattle.plaid_types.specs.declared.ModeSlot.{ModeSlot}
 use Rattle.plaid_types.specs.declared.Card.{Card}
 use Rattle.plaid_types.specs.declared.Outcome.{Outcome}
 use Rattle.load.specs.Load.{some, setSlot, modeSlot}
-use Rattle.load.specs.Laws.{pastSet, pastMode, setAt, modeAt, Stocked}
+use Rattle.load.specs.Laws.{map-take, pastSet, pastMode, setAt, modeAt, Stocked}
 use Rattle.list.specs.Encoding.{encoded}
 use Rattle.initial.specs.Initial.{slotOf}
 use Rattle.final_command.specs.Final.{firstMode}
 use Rattle.card.specs.Command.{outcome, answerBytes}
 use Rattle.card.specs.Lists.{Call, cardAfter}
-use Rattle.reader_list.specs.List.{given, listCommand, listed, listOutput}
+use Rattle.reader_list.specs.List.{numbers, given, listCommand, listed, listOutput}
 use Rattle.reader_list.specs.declared.Written.{Written}
 use Rattle.reader_open.specs.Open.{noId, opensAs, blockAt, opened}
 use Rattle.reader_open.specs.declared.Opened.{Opened}
@@ -93,10 +93,10 @@ module _ (e : Exchange) where
 
   -- Seal, "with DivData and RND1 as Open gave them", and the command that it wrote
   abbrev pub seal : Sealed
-  seal = sealedOf (e .faKey) (open₁ .«div_data») (open₁ .rnd1) (e .rnd2) (e .mode .0) (e .payload) (length (e .sealOut))
+  seal = sealedOf (e .faKey) (open₁ .«div_data») (open₁ .rnd1) (e .rnd2) (e .mode) (e .payload) (length (e .sealOut))
 
   abbrev pub command₂ : List ℕ
-  command₂ = part (sealOutput (e .faKey) (open₁ .«div_data») (open₁ .rnd1) (e .rnd2) (e .mode .0) (e .payload) (e .sealOut)) 0 (seal .length)
+  command₂ = part (sealOutput (e .faKey) (open₁ .«div_data») (open₁ .rnd1) (e .rnd2) (e .mode) (e .payload) (e .sealOut)) 0 (seal .length)
 
   -- the card's answer to it: "the card gets no other command in between"
   abbrev pub outcome₂ : Outcome
@@ -126,7 +126,7 @@ module _ (e : Exchange) where
     -- "platform decryption undoes encryption for it"
     pub decrypted : blockAt (e .blocks) place ≡ answer₁
     -- "no earlier entry's block opens"
-    pub none-opens : (i : ℕ) → i < place → opensAs (getD (e .ids) i noId .0) (blockAt (e .blocks) i) ≡ false
+    pub none-opens : (i : ℕ) → i < place → opensAs (getD (e .ids) i noId) (blockAt (e .blocks) i) ≡ false
     -- "the mode is held": it is the load's mode at `at`
     pub at : ℕ
     pub mode-loaded : at < e .load .given .«mode_count»
@@ -160,30 +160,37 @@ module _ (e : Exchange) where
     g = kp .stocked
 
     -- the KeySetIDs listed
-    ids : List ℕ
-    ids = given (e .ids) (e .count)
+    ids : List KeySetId
+    ids = take (e .count) (e .ids)
 
     range : (1 ≤ e .count) × (e .count ≤ 16)
     range = promise.listing (e .ids) (e .count) (length (e .listOut)) (list-number (e .ids) (e .count) (e .listOut) (k .list-done))
 
     ids-are : length ids ≡ e .count
     unfolding ids
-    ids-are = length-take-le (e .count) (map (λ (x : KeySetId). x .0) (e .ids)) (omega (arith, length-map (e .ids) (λ (x : KeySetId). x .0), k .ids-long, range .1))
+    ids-are = length-take-le (e .count) (e .ids) (omega (arith, k .ids-long, range .1))
 
-    id-at : (i : ℕ) → i < e .count → getD ids i 0 ≡ getD (e .ids) i noId .0
+    id-at : (i : ℕ) → i < e .count → getD ids i noId ≡ getD (e .ids) i noId
     unfolding ids
-    id-at i h = getD-take (e .count) (map (λ (x : KeySetId). x .0) (e .ids)) i 0 h ∙ List·getD-map (λ (x : KeySetId). x .0) (e .ids) i noId
+    id-at i h = getD-take (e .count) (e .ids) i noId h
 
-    id-small : (i : ℕ) (t : Bool) → ltb i (e .count) ≡ t → getD ids i 0 < 65536
-    id-small i true q = rw (id-at i (ltb-true i (e .count) q)) (k .ids-small i)
-    id-small i false q = rw (List·getD-eq-default ids 0 {n = i} (omega (arith, ids-are, ltb-false i (e .count) q))) (omega arith)
+    numbers-are : numbers ids ≡ given (e .ids) (e .count)
+    unfolding ids
+    numbers-are = sym (map-take (λ (x : KeySetId). x .0) (e .count) (e .ids))
+
+    id-small : (i : ℕ) → getD (numbers ids) i 0 < 65536
+    id-small i = rw (List·getD-map (λ (x : KeySetId). x .0) ids i noId) (by (ltb i (e .count)) refl)
+      where
+        by : (t : Bool) → ltb i (e .count) ≡ t → getD ids i noId .0 < 65536
+        by true q = rw (id-at i (ltb-true i (e .count) q)) (k .ids-small i)
+        by false q = rw (List·getD-eq-default ids noId {n = i} (omega (arith, ids-are, ltb-false i (e .count) q))) (omega arith)
 
     -- the first listed set that the card holds
     slot-is : setAt card (k .set) ≡ setSlot (getD (e .load .sets) (k .set) pastSet)
     slot-is = ap (λ (x : Card). setAt x (k .set)) (kp .same) ∙ set-slot (e .load) (k .set) (k .set-loaded)
 
-    slot-id : setAt card (k .set) .id .0 ≡ getD ids (k .place) 0
-    slot-id = ap (λ (s : KeySetSlot). s .id .0) slot-is ∙ ap (λ (x : KeySetId). x .0) (k .same-id) ∙ sym (id-at (k .place) (k .place-listed))
+    slot-id : setAt card (k .set) .id ≡ getD ids (k .place) noId
+    slot-id = ap (λ (s : KeySetSlot). s .id) slot-is ∙ k .same-id ∙ sym (id-at (k .place) (k .place-listed))
 
     slot-held : setAt card (k .set) .held ≡ true
     slot-held = ap (λ (s : KeySetSlot). s .held) slot-is
@@ -191,16 +198,12 @@ module _ (e : Exchange) where
     below : k .set < 8
     below = omega (arith, k .set-loaded, sets-most (e .load))
 
-    same-number : (x y : KeySetId) → x .0 ≡ y .0 → x ≡ y
-    same-number x y q = ap (λ (m : ℕ). record { 0 = m }) q
-
-    none-held : (i m : ℕ) → i < k .place → setAt card m .held ≡ true → setAt card m .id .0 ≡ getD ids i 0 → ⊥
+    none-held : (i m : ℕ) → i < k .place → setAt card m .held ≡ true → setAt card m .id ≡ getD ids i noId → ⊥
     none-held i m h a b =
         let w : setAt card m ≡ setAt (cardOf (e .load)) m = ap (λ (x : Card). setAt x m) (kp .same) in
         let j : m < length (e .load .sets) = slot-given (e .load) m (sym (ap (λ (s : KeySetSlot). s .held) w) ∙ a) in
         k .none-earlier i m h j
-        (same-number (getD (e .load .sets) m pastSet .id) (getD (e .ids) i noId)
-        (sym (ap (λ (s : KeySetSlot). s .id .0) (w ∙ set-slot (e .load) m j)) ∙ b ∙ id-at i (omega (arith, k .place-listed))))
+        (sym (ap (λ (s : KeySetSlot). s .id) (w ∙ set-slot (e .load) m j)) ∙ b ∙ id-at i (omega (arith, k .place-listed)))
 
     some-held : some (held card) ids ≡ true
     some-held = listed-held card g ids (k .place) (k .set) (omega (arith, ids-are, k .place-listed)) below slot-held slot-id none-held
@@ -208,48 +211,51 @@ module _ (e : Exchange) where
     first-is : firstHeld card ids ≡ k .place
     first-is = place-is card g ids (k .place) (k .set) (omega (arith, ids-are, k .place-listed)) below slot-held slot-id none-held
 
-    found-slot : slotOf card (encoded ids) ≡ k .set
+    found-slot : slotOf card (encoded (numbers ids)) ≡ k .set
     found-slot =
-        slot-unique card g (getD ids (k .place) 0)
-        (subst (λ (m : ℕ). Holds (card .sets) (slotOf card (encoded ids)) (getD ids m 0)) first-is (list-slot card g ids (omega (arith, ids-are, range .1)) some-held))
+        slot-unique card g (getD ids (k .place) noId)
+        (subst (λ (m : ℕ). Holds (card .sets) (slotOf card (encoded (numbers ids))) (getD ids m noId)) first-is (list-slot card g ids (omega (arith, ids-are, range .1)) some-held))
         (record { below = below; kept = slot-held; id = slot-id })
 
-    key-is : setAt card (slotOf card (encoded ids)) .«fa_key» ≡ e .faKey
-    key-is = ap (λ (j : ℕ). setAt card j .«fa_key») found-slot ∙ ap (λ (s : KeySetSlot). s .«fa_key») slot-is ∙ k .same-key
+    key-is : setAt card (slotOf card (encoded (given (e .ids) (e .count)))) .«fa_key» ≡ e .faKey
+    key-is = sym (ap (λ (s : List ℕ). setAt card (slotOf card (encoded s)) .«fa_key») numbers-are) ∙ ap (λ (j : ℕ). setAt card j .«fa_key») found-slot ∙ ap (λ (s : KeySetSlot). s .«fa_key») slot-is ∙ k .same-key
 
     -- the mode
     mode-slot-is : modeAt card (k .at) ≡ modeSlot (getD (e .load .given .modes) (k .at) pastMode)
     mode-slot-is = ap (λ (x : Card). modeAt x (k .at)) (kp .same) ∙ mode-slot (e .load) (k .at) (k .mode-loaded)
 
-    mode-id : modeAt card (k .at) .id .0 ≡ e .mode .0
-    mode-id = ap (λ (s : ModeSlot). s .id .0) mode-slot-is ∙ ap (λ (x : OpModeId). x .0) (k .same-mode)
+    mode-id : modeAt card (k .at) .id ≡ e .mode
+    mode-id = ap (λ (s : ModeSlot). s .id) mode-slot-is ∙ k .same-mode
 
-    mode-held : firstMode 0 (e .mode .0) (card .modes) < 16
-    mode-held = mode-found card g (e .mode .0) (k .at) (mode-below (e .load) (k .at) (k .mode-loaded)) (ap (λ (s : ModeSlot). s .held) mode-slot-is) mode-id
+    mode-held : firstMode 0 (e .mode) (card .modes) < 16
+    mode-held = mode-found card g (e .mode) (k .at) (mode-below (e .load) (k .at) (k .mode-loaded)) (ap (λ (s : ModeSlot). s .held) mode-slot-is) mode-id
 
-    sealed-slot : sealedSlot card (e .mode .0) ≡ modeSlot (getD (e .load .given .modes) (k .at) pastMode)
+    sealed-slot : sealedSlot card (e .mode) ≡ modeSlot (getD (e .load .given .modes) (k .at) pastMode)
     sealed-slot =
         ap (modeAt card)
-        (mode-is card g (e .mode .0) (k .at) (mode-below (e .load) (k .at) (k .mode-loaded)) (ap (λ (s : ModeSlot). s .held) mode-slot-is) mode-id)
+        (mode-is card g (e .mode) (k .at) (mode-below (e .load) (k .at) (k .mode-loaded)) (ap (λ (s : ModeSlot). s .held) mode-slot-is) mode-id)
         ∙ mode-slot-is
 
     -- the commands are List's and Seal's
-    sent₁ : command₁ ≡ listCommand ids
-    unfolding ids
+    cmd₁ : List ℕ
+    cmd₁ = listCommand (given (e .ids) (e .count))
+
+    sent₁ : command₁ ≡ cmd₁
+    unfolding cmd₁
     sent₁ = list-sent (e .ids) (e .count) (e .listOut) (k .list-done)
 
     cmd₂ : List ℕ
-    cmd₂ = sealCommand (e .faKey) (open₁ .«div_data») (open₁ .rnd1) (e .rnd2) (e .mode .0) (e .payload)
+    cmd₂ = sealCommand (e .faKey) (open₁ .«div_data») (open₁ .rnd1) (e .rnd2) (e .mode) (e .payload)
 
     sent₂ : command₂ ≡ cmd₂
     unfolding cmd₂
-    sent₂ = seal-sent (e .faKey) (open₁ .«div_data») (open₁ .rnd1) (e .rnd2) (e .mode .0) (e .payload) (e .sealOut) (k .seal-done)
+    sent₂ = seal-sent (e .faKey) (open₁ .«div_data») (open₁ .rnd1) (e .rnd2) (e .mode) (e .payload) (e .sealOut) (k .seal-done)
 
     hash-is : seal .«keys_hash» ≡ keysHashOf (open₁ .rnd1) (e .rnd2)
-    hash-is = seal-hash (e .faKey) (open₁ .«div_data») (open₁ .rnd1) (e .rnd2) (e .mode .0) (e .payload) (e .sealOut) (k .seal-done)
+    hash-is = seal-hash (e .faKey) (open₁ .«div_data») (open₁ .rnd1) (e .rnd2) (e .mode) (e .payload) (e .sealOut) (k .seal-done)
 
     next : Card
-    next = outcome card (listCommand ids) (e .fresh₁) (e .room₁) .card
+    next = outcome card cmd₁ (e .fresh₁) (e .room₁) .card
 
     next-is : outcome₁ .card ≡ next
     unfolding next
@@ -261,8 +267,8 @@ module _ (e : Exchange) where
     accept-is : accept ≡ acceptedOf (keysHashOf (open₁ .rnd1) (e .rnd2)) (open₁ .«div_data») (answerBytes next cmd₂ (e .fresh₂) (e .room₂)) (length (e .work))
     accept-is = ap₂ (λ (h a : List ℕ). acceptedOf h (open₁ .«div_data») a (length (e .work))) hash-is answer-is
 
-    conditions : promise.Conditions card (e .ids) (e .count) (e .fresh₁) (e .room₁) (e .blocks) (e .faKey) (e .rnd2) (e .payload) (e .mode .0) (e .fresh₂) (e .room₂) (e .work)
-    unfolding ids cmd₂ next
+    conditions : promise.Conditions card (e .ids) (e .count) (e .fresh₁) (e .room₁) (e .blocks) (e .faKey) (e .rnd2) (e .payload) (e .mode) (e .fresh₂) (e .room₂) (e .work)
+    unfolding ids cmd₁ cmd₂ next
     conditions =
         record {
           stocked = g;
@@ -278,7 +284,7 @@ module _ (e : Exchange) where
           no-earlier = λ i h. k .none-opens i (omega (arith, first-is));
           mode-held = mode-held;
           ids-long = k .ids-long;
-          ids-small = λ i. id-small i (ltb i (e .count)) refl;
+          ids-small = λ i. subst (λ (s : List ℕ). getD s i 0 < 65536) numbers-are (id-small i);
           mode-small = k .mode-small;
           div-bytes = subst (λ (d : List ℕ). Bytes d) (sym (ap (λ (x : Card). x .«div_data») (kp .same) ∙ div-given (e .load))) (e .load .typed .div .byte);
           area-bytes = subst (λ (d : List ℕ). Bytes d) (sym (ap (λ (x : Card). x .area) (kp .same))) (area-bytes (e .load));
@@ -287,15 +293,15 @@ module _ (e : Exchange) where
           payload-bytes = k .payload-bytes;
         }
 
-    numbered : accept ≡ record { number = 0; length = sealedSlot card (e .mode .0) .len }
-    unfolding ids cmd₂ next
+    numbered : accept ≡ record { number = 0; length = sealedSlot card (e .mode) .len }
+    unfolding ids cmd₁ cmd₂ next
     numbered =
         accept-is
-        ∙ promise.session-number card (e .ids) (e .count) (e .fresh₁) (e .room₁) (e .blocks) (e .faKey) (e .rnd2) (e .payload) (e .mode .0) (e .fresh₂) (e .room₂) (e .work) conditions
+        ∙ promise.session-number card (e .ids) (e .count) (e .fresh₁) (e .room₁) (e .blocks) (e .faKey) (e .rnd2) (e .payload) (e .mode) (e .fresh₂) (e .room₂) (e .work) conditions
 
     -- THE SESSION PROMISE
     pub session-promise : Promised k
-    unfolding ids cmd₂ next
+    unfolding ids cmd₁ cmd₂ next
     session-promise =
         let m : Mode = getD (e .load .given .modes) (k .at) pastMode in
         record {
@@ -303,7 +309,7 @@ module _ (e : Exchange) where
           record-length = ap (λ (a : Accepted). a .length) numbered ∙ ap (λ (s : ModeSlot). s .len) sealed-slot;
           record-returned =
               ap₂ (λ (h a : List ℕ). recordPart (workAfter h (open₁ .«div_data») a (e .work)) (acceptedOf h (open₁ .«div_data») a (length (e .work)))) hash-is answer-is
-              ∙ promise.session-record card (e .ids) (e .count) (e .fresh₁) (e .room₁) (e .blocks) (e .faKey) (e .rnd2) (e .payload) (e .mode .0) (e .fresh₂) (e .room₂) (e .work) conditions
+              ∙ promise.session-record card (e .ids) (e .count) (e .fresh₁) (e .room₁) (e .blocks) (e .faKey) (e .rnd2) (e .payload) (e .mode) (e .fresh₂) (e .room₂) (e .work) conditions
               ∙ ap (λ (s : ModeSlot). part (card .area) (s .start) (s .len)) sealed-slot
               ∙ ap (λ (a : List ℕ). part a (m .start) (m .len)) (ap (λ (x : Card). x .area) (kp .same))
               ∙ record-given (e .load) (k .at) (k .mode-loaded);

@@ -11,10 +11,8 @@ use lib.Seq.{drop-at, take-all}
 use borrow.Author.Tests.{le-ltb, eq-eqb, ne-eqb}
 use Rattle.octets.specs.Bytes.{Bytes}
 use Rattle.octets.specs.Lists.{part, over}
-use Rattle.plaid_types.specs.Cards.{withSession}
 use Rattle.plaid_types.specs.declared.KeySetId.{KeySetId}
 use Rattle.plaid_types.specs.declared.Card.{Card}
-use Rattle.plaid_types.specs.declared.Outcome.{Outcome}
 use Rattle.frame.specs.Frame.{frameOf, whole, statusOf, dataOf}
 use Rattle.frame.specs.Declines.{padBytes, noZero, verdict}
 use Rattle.load.specs.Load.{refusal, modesRefusal, loadedCard, loaded, filled}
@@ -142,7 +140,7 @@ payload-small (suc (suc zero)) = omega arith
 payload-small (suc (suc (suc i))) = omega arith
 
 -- the block of the first entry does not open, and that of the second is the card's answer
-none-opens : (i : ℕ) → i < 1 → opensAs (getD (session .ids) i noId .0) (blockAt (session .blocks) i) ≡ false
+none-opens : (i : ℕ) → i < 1 → opensAs (getD (session .ids) i noId) (blockAt (session .blocks) i) ≡ false
 unfolding session exchange opensAs formed part
 none-opens zero h = refl
 none-opens (suc i) h = absurd (omega arith)

@@ -23,6 +23,7 @@ use Rattle.steps.specs.Made.{expansionStep, hashSteps}
 use Rattle.steps.specs.declared.Expanded.{Expanded}
 use Rattle.steps.specs.declared.Hashing.{Hashing}
 use Rattle.plaid_types.specs.Cards.{noMode}
+use Rattle.plaid_types.specs.declared.OpModeId.{OpModeId}
 use Rattle.plaid_types.specs.declared.ModeSlot.{ModeSlot}
 use Rattle.plaid_types.specs.declared.Card.{Card}
 use Rattle.final_command.specs.Final.{faKeyOf, rnd1Of, diversified, blocksIn, textOf, hashedOf, keysHash, opMode, modeSteps, firstMode, modeOf, decipheredText, accepting, acceptsFinal, replyKey, sizeOf, replyText, replyBuffer, finalBytes, finalSteps, finalReply}
@@ -162,7 +163,7 @@ module _ (c : Card) (d fresh : List ℕ) where
   no-modes : (k : ℕ) → eqb comparison k ≡ false → counted k (modeSteps (opMode (textOf c d)) (c .modes)) ≡ 0
   no-modes k h = counted-modes k (opMode (textOf c d)) (c .modes) ∙ rw h (omega arith)
 
-  module _ (o : Opened) (w : ℕ) (f : Found) (ok : Bool) (mode : ModeSlot) (s : Sent) (qo : o ≡ openedText c d) (qw : w ≡ opMode (o .text))
+  module _ (o : Opened) (w : OpModeId) (f : Found) (ok : Bool) (mode : ModeSlot) (s : Sent) (qo : o ≡ openedText c d) (qw : w ≡ opMode (o .text))
       (qf : f ≡ record { at = firstMode 0 w (c .modes); count = counted comparison (modeSteps w (c .modes)); sum = sumFrom (o .sum) (modeSteps w (c .modes)) })
       (qok : ok ≡ accepting (c .session .opened) (length d) (part (o .text) 0 (16 * (length d / 16))) (o .hash) (f .at))
       (qm : mode ≡ getD (c .modes) (f .at) noMode) where
@@ -171,7 +172,7 @@ module _ (c : Card) (d fresh : List ℕ) where
 
     at-is : f .at ≡ modeOf c d
     unfolding modeOf
-    at-is = ap (λ (r : Found). r .at) qf ∙ ap (λ (x : ℕ). firstMode 0 x (c .modes)) value-is
+    at-is = ap (λ (r : Found). r .at) qf ∙ ap (λ (x : OpModeId). firstMode 0 x (c .modes)) value-is
 
     ok-is : ok ≡ acceptsFinal c d
     unfolding acceptsFinal decipheredText
@@ -202,9 +203,9 @@ module _ (c : Card) (d fresh : List ℕ) where
         let key : List ℕ = replyKey c d in
         let b : List ℕ = replyBuffer c d fresh in
         let z : s ≡ sent key (sizeOf c) b (f .sum) = qs ∙ ap₂ (λ (x y : List ℕ). sent x (sizeOf c) y (f .sum)) key-is buffer-same in
-        let fc : f .count ≡ counted comparison (modeSteps (opMode (textOf c d)) (c .modes)) = ap (λ (r : Found). r .count) qf ∙ ap (λ (x : ℕ). counted comparison (modeSteps x (c .modes))) value-is in
+        let fc : f .count ≡ counted comparison (modeSteps (opMode (textOf c d)) (c .modes)) = ap (λ (r : Found). r .count) qf ∙ ap (λ (x : OpModeId). counted comparison (modeSteps x (c .modes))) value-is in
         let fs : f .sum ≡ sumFrom (sumFrom 0 (textSteps c d)) (modeSteps (opMode (textOf c d)) (c .modes)) =
-        ap (λ (r : Found). r .sum) qf ∙ ap₂ (λ (r : Opened) (x : ℕ). sumFrom (r .sum) (modeSteps x (c .modes))) qo value-is in
+        ap (λ (r : Found). r .sum) qf ∙ ap₂ (λ (r : Opened) (x : OpModeId). sumFrom (r .sum) (modeSteps x (c .modes))) qo value-is in
         let n₁ : f .count ≡ counted comparison (finalReply c d fresh .steps) = omega (arith, fc, count-are comparison, text-comparisons c d, reply-comparisons key (sizeOf c) b) in
         let n₂ : o .decipherments ≡ counted decipherment (finalReply c d fresh .steps) =
         omega (arith, ap (λ (r : Opened). r .decipherments) qo, count-are decipherment, no-modes decipherment refl, reply-decipherments key (sizeOf c) b) in

@@ -9,8 +9,10 @@ use lib.Dec.{eqb}
 use lib.ListN.{length, getD, drop, drop-of-length-le}
 use lib.Seq.{drop-cons}
 use Rattle.work.specs.Steps.{comparison, sumFrom, counted}
-use Rattle.steps.specs.Made.{matched, comparisonStep}
+use Rattle.steps.specs.Made.{setMatched, modeMatched, modeComparison}
 use Rattle.plaid_types.specs.Cards.{noMode}
+use Rattle.plaid_types.specs.declared.KeySetId.{KeySetId}
+use Rattle.plaid_types.specs.declared.OpModeId.{OpModeId}
 use Rattle.plaid_types.specs.declared.KeySetSlot.{KeySetSlot}
 use Rattle.plaid_types.specs.declared.ModeSlot.{ModeSlot}
 use Rattle.steps.specs.Laws.{kept-last}
@@ -18,22 +20,22 @@ use Rattle.final_command.specs.Final.{keyOf, modeSteps, firstMode}
 use Rattle.final_command.specs.Laws.{counted-modes}
 use Rattle.final_command.specs.declared.Found.{Found}
 
-pub key-turn : (l : List KeySetSlot) (none : KeySetSlot) (id : ℕ) (other key : List ℕ) (i j : ℕ) → j < length l → i ≡ suc j → key ≡ keyOf (drop i l) id other →
-    cond (matched true id (getD l j none .held) (getD l j none .id .0)) (getD l j none .«fa_key») key ≡ keyOf (drop j l) id other
+pub key-turn : (l : List KeySetSlot) (none : KeySetSlot) (id : KeySetId) (other key : List ℕ) (i j : ℕ) → j < length l → i ≡ suc j → key ≡ keyOf (drop i l) id other →
+    cond (setMatched true id (getD l j none .held) (getD l j none .id)) (getD l j none .«fa_key») key ≡ keyOf (drop j l) id other
 unfolding keyOf
 key-turn l none id other key i j h e q = rw (q, e, drop-cons l j none h)
 
-pub key-start : (l : List KeySetSlot) (id : ℕ) (other : List ℕ) (i : ℕ) → length l ≤ i → other ≡ keyOf (drop i l) id other
+pub key-start : (l : List KeySetSlot) (id : KeySetId) (other : List ℕ) (i : ℕ) → length l ≤ i → other ≡ keyOf (drop i l) id other
 unfolding keyOf
 key-start l id other i h = rw (drop-of-length-le l h)
 
-module _ (v : ℕ) (l : List ModeSlot) (i : ℕ) where
+module _ (v : OpModeId) (l : List ModeSlot) (i : ℕ) where
   pub sum-turn : (s : ℕ) → i < length l →
-      sumFrom s (modeSteps v (drop i l)) ≡ sumFrom (sumFrom s (comparisonStep true v (getD l i noMode .held) (getD l i noMode .id .0) ∷ [])) (modeSteps v (drop (i + 1) l))
+      sumFrom s (modeSteps v (drop i l)) ≡ sumFrom (sumFrom s (modeComparison v (getD l i noMode .held) (getD l i noMode .id) ∷ [])) (modeSteps v (drop (i + 1) l))
   sum-turn s h = rw (add-one, drop-cons l i noMode)
 
   pub first-turn : i < length l →
-      firstMode i v (drop i l) ≡ cond (matched true v (getD l i noMode .held) (getD l i noMode .id .0)) i (firstMode (i + 1) v (drop (i + 1) l))
+      firstMode i v (drop i l) ≡ cond (modeMatched v (getD l i noMode .held) (getD l i noMode .id)) i (firstMode (i + 1) v (drop (i + 1) l))
   first-turn h = rw (add-one, drop-cons l i noMode)
 
   pub sum-end : (s : ℕ) → length l ≤ i → sumFrom s (modeSteps v (drop i l)) ≡ s
@@ -43,7 +45,7 @@ module _ (v : ℕ) (l : List ModeSlot) (i : ℕ) where
   first-end h = rw (drop-of-length-le l h)
 
 -- past the last slot
-pub found-same : (v : ℕ) (l : List ModeSlot) (i at count s sum : ℕ) → length l ≡ 16 → i ≡ 16 → count ≡ i →
+pub found-same : (v : OpModeId) (l : List ModeSlot) (i at count s sum : ℕ) → length l ≡ 16 → i ≡ 16 → count ≡ i →
     sumFrom s (modeSteps v (drop i l)) ≡ sumFrom sum (modeSteps v l) → cond (eqb at 16) (firstMode i v (drop i l)) at ≡ firstMode 0 v l →
     _≡_ {A = Found} (record { at = at; count = count; sum = s }) (record { at = firstMode 0 v l; count = counted comparison (modeSteps v l); sum = sumFrom sum (modeSteps v l) })
 found-same v l i at count s sum n e qc qs qa =

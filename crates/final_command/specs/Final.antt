@@ -12,8 +12,10 @@ use Rattle.padding.specs.Method2.{padded, end, rightly}
 use Rattle.work.specs.Steps.{Step}
 use Rattle.cbc.specs.Cbc.{encrypted, decrypted, zeros}
 use Rattle.cbc.specs.Steps.{encipherStep, enciphered, deciphered}
-use Rattle.steps.specs.Made.{matched, comparisonStep, expansionStep, hashSteps}
+use Rattle.steps.specs.Made.{setMatched, modeMatched, modeComparison, expansionStep, hashSteps}
 use Rattle.plaid_types.specs.Cards.{noSession, noMode, Reply}
+use Rattle.plaid_types.specs.declared.KeySetId.{KeySetId}
+use Rattle.plaid_types.specs.declared.OpModeId.{OpModeId}
 use Rattle.plaid_types.specs.declared.KeySetSlot.{KeySetSlot}
 use Rattle.plaid_types.specs.declared.ModeSlot.{ModeSlot}
 use Rattle.plaid_types.specs.declared.Card.{Card}
@@ -22,13 +24,13 @@ abbrev pub least : ℕ → ℕ → ℕ
 least a b = cond (ltb a b) a b
 
 -- the FAKey of a KeySetID. A session's is always held; `other` stands for one that is not
-unfoldable pub keyOf : List KeySetSlot → ℕ → List ℕ → List ℕ
+unfoldable pub keyOf : List KeySetSlot → KeySetId → List ℕ → List ℕ
 keyOf [] id other = other
-keyOf (k ∷ ks) id other = cond (matched true id (k .held) (k .id .0)) (k .«fa_key») (keyOf ks id other)
+keyOf (k ∷ ks) id other = cond (setMatched true id (k .held) (k .id)) (k .«fa_key») (keyOf ks id other)
 
 -- "With no session the shill AES key stands for FAKey and zeros for RND1."
 unfoldable pub faKeyOf : Card → List ℕ
-faKeyOf c = cond (c .session .opened) (keyOf (c .sets) (c .session .id .0) (c .«shill_key»)) (c .«shill_key»)
+faKeyOf c = cond (c .session .opened) (keyOf (c .sets) (c .session .id) (c .«shill_key»)) (c .«shill_key»)
 
 unfoldable pub rnd1Of : Card → List ℕ
 rnd1Of c = cond (c .session .opened) (c .session .rnd1) zeros
@@ -54,17 +56,17 @@ unfoldable pub keysHash : Card → List ℕ → List ℕ
 keysHash c d = part (sha256 (hashedOf c d)) 0 16
 
 -- "compare bytes 0 and 1 with sixteen mode slots (an empty one never matches)"
-unfoldable pub opMode : List ℕ → ℕ
-opMode text = getD text 0 0 * 256 + getD text 1 0
+unfoldable pub opMode : List ℕ → OpModeId
+opMode text = record { 0 = getD text 0 0 * 256 + getD text 1 0 }
 
-abbrev pub modeSteps : ℕ → List ModeSlot → List Step
+abbrev pub modeSteps : OpModeId → List ModeSlot → List Step
 modeSteps v [] = []
-modeSteps v (m ∷ ms) = comparisonStep true v (m .held) (m .id .0) ∷ modeSteps v ms
+modeSteps v (m ∷ ms) = modeComparison v (m .held) (m .id) ∷ modeSteps v ms
 
 -- the first mode slot, counted from i, that matches; past the last where none does
-abbrev pub firstMode : ℕ → ℕ → List ModeSlot → ℕ
+abbrev pub firstMode : ℕ → OpModeId → List ModeSlot → ℕ
 firstMode i v [] = i
-firstMode i v (m ∷ ms) = cond (matched true v (m .held) (m .id .0)) i (firstMode (suc i) v ms)
+firstMode i v (m ∷ ms) = cond (modeMatched v (m .held) (m .id)) i (firstMode (suc i) v ms)
 
 unfoldable pub modeOf : Card → List ℕ → ℕ
 modeOf c d = firstMode 0 (opMode (textOf c d)) (c .modes)

@@ -18,6 +18,7 @@ use Rattle.cbc.specs.Steps.{enciphered, deciphered}
 use Rattle.cbc.specs.Lengths.{length-encrypted}
 use Rattle.steps.specs.Made.{hashStep, hashSteps}
 use Rattle.steps.specs.Laws.{blocks-one}
+use Rattle.plaid_types.specs.declared.OpModeId.{OpModeId}
 use Rattle.plaid_types.specs.declared.ModeSlot.{ModeSlot}
 use Rattle.plaid_types.specs.declared.Card.{Card}
 use Rattle.final_command.specs.Final.{rnd1Of, diversified, blocksIn, textOf, hashedOf, modeSteps, replyKey, sizeOf, replyBuffer, finalBytes, finalSteps, finalReply}
@@ -53,7 +54,7 @@ counted-hash : (k : ℕ) (m : List ℕ) (n j : ℕ) → counted k (table (hashSt
 counted-hash k m zero j = times-none (eqb hashBlock k)
 counted-hash k m (suc n) j = ap (λ (i : ℕ). of-kind hashBlock k + i) (counted-hash k m n (suc j)) ∙ times-more (eqb hashBlock k) n
 
-pub counted-modes : (k v : ℕ) (ms : List ModeSlot) → counted k (modeSteps v ms) ≡ length ms * of-kind comparison k
+pub counted-modes : (k : ℕ) (v : OpModeId) (ms : List ModeSlot) → counted k (modeSteps v ms) ≡ length ms * of-kind comparison k
 counted-modes k v [] = times-none (eqb comparison k)
 counted-modes k v (m ∷ ms) = ap (λ (n : ℕ). of-kind comparison k + n) (counted-modes k v ms) ∙ times-more (eqb comparison k) (length ms)
 

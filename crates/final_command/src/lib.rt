@@ -1,5 +1,7 @@
 //! The final command of a card (document 01, "Final"). Every step is always made, in one order; what they find is judged behind them.
+use plaid_types::Answer;
 use plaid_types::Card;
+use plaid_types::KeySetId;
 use plaid_types::KeySetSlot;
 use plaid_types::ModeSlot;
 use plaid_types::OpModeId;
@@ -18,7 +20,7 @@ ghost use Rattle.padding.specs.Method2.{rightly, end};
 ghost use Rattle.work.specs.Steps.{comparison, decipherment, encipherment, expansion, hashBlock, counted, sumFrom};
 ghost use Rattle.cbc.specs.Cbc.{encrypted, decrypted, zeros};
 ghost use Rattle.cbc.specs.Steps.{deciphered};
-ghost use Rattle.steps.specs.Made.{matched, hashSteps};
+ghost use Rattle.steps.specs.Made.{setMatched, hashSteps};
 ghost use Rattle.plaid_types.specs.Cards.{noMode};
 ghost use Rattle.final_command.specs.Final.{least, keyOf, faKeyOf, blocksIn, opMode, modeSteps, firstMode, accepting, recordOf, sizeOf, replyText, finalReply};
 ghost use Rattle.final_command.specs.Parts.{divSteps, openedText, bufferOf, sent};
@@ -33,13 +35,13 @@ fn choose(t: bool, a: [u8; 16], b: [u8; 16]) -> [u8; 16]
     if t { a } else { b }
 }
 
-fn held_key(k: KeySetSlot, id: u16, other: [u8; 16]) -> [u8; 16]
-    ensures { λ r. ⌜ r ≡ cond (matched true id (k .held) (k .id .0)) (k .«fa_key») other ⌝ }
+fn held_key(k: KeySetSlot, id: KeySetId, other: [u8; 16]) -> [u8; 16]
+    ensures { λ r. ⌜ r ≡ cond (setMatched true id (k .held) (k .id)) (k .«fa_key») other ⌝ }
 {
     let w = k.id;
     let key = k.fa_key;
     if k.held {
-        if id == w.0 {
+        if id.0 == w.0 {
             return key;
         }
     }
@@ -47,11 +49,11 @@ fn held_key(k: KeySetSlot, id: u16, other: [u8; 16]) -> [u8; 16]
 }
 
 // The first slot's key is taken last.
-fn key_of(sets: [KeySetSlot; 8], id: u16, other: [u8; 16]) -> [u8; 16]
+fn key_of(sets: [KeySetSlot; Card::KEY_SETS], id: KeySetId, other: [u8; 16]) -> [u8; 16]
     ensures { λ r. ⌜ r ≡ keyOf sets id other ⌝ }
 {
     let mut key = other;
-    let mut i: usize = 8;
+    let mut i = Card::KEY_SETS;
     while 0 < i {
         i -= 1;
         let k = held_key(sets[i], id, key);
@@ -67,7 +69,7 @@ fn fa_key(card: Card) -> [u8; 16]
     let id = s.id;
     let shill = card.shill_key;
     let sets = card.sets;
-    choose(s.opened, key_of(sets, id.0, shill), shill)
+    choose(s.opened, key_of(sets, id, shill), shill)
 }
 
 struct Diversified {
@@ -93,9 +95,13 @@ fn diversify(fa: [u8; 16], div: [u8; 16], sum: u32) -> Diversified
 }
 
 struct Deciphered {
-    text: [u8; 240],
+    text: [u8; Deciphered::TEXT],
     count: usize,
     sum: u32,
+}
+
+impl Deciphered {
+    const TEXT: usize = 240;
 }
 
 // The whole blocks of d, deciphered into bytes that start as zero.
@@ -103,7 +109,7 @@ fn decipher(key: [u8; 16], rows: &[[u8; 16]; 11], d: &[u8], sum: u32) -> Deciphe
     requires { ⌜ length (now d) < 256 ⌝ }
     ensures { λ r. ⌜ r ≡ record { text = over (replicate 240 0) 0 (decrypted (invCipher 10 (now (rows .entry))) zeros (blocksIn (now (d .entry))) (now (d .entry))); count = counted decipherment (deciphered key (invCipher 10 (now (rows .entry))) (blocksIn (now (d .entry))) (now (d .entry))); sum = sumFrom sum (deciphered key (invCipher 10 (now (rows .entry))) (blocksIn (now (d .entry))) (now (d .entry))) } ⌝ }
 {
-    let mut text = [0u8; 240];
+    let mut text = [0u8; Deciphered::TEXT];
     let n = 16 * (d.len() / 16);
     octets::copy_at(&mut text, 0, &d[..n]);
     let m = cbc::decipher(&key, rows, [0u8; 16], &mut text[..n], sum);
@@ -114,7 +120,7 @@ fn decipher(key: [u8; 16], rows: &[[u8; 16]; 11], d: &[u8], sum: u32) -> Deciphe
     }
 }
 
-fn hashed(rnd1: [u8; 16], text: [u8; 240], sum: u32) -> steps::Hashing
+fn hashed(rnd1: [u8; 16], text: [u8; Deciphered::TEXT], sum: u32) -> steps::Hashing
     ensures { λ r. ⌜ r ≡ record { digest = sha256 (rnd1 ++ part text 2 16); count = counted hashBlock (hashSteps (rnd1 ++ part text 2 16)); sum = sumFrom sum (hashSteps (rnd1 ++ part text 2 16)) } ⌝ }
 {
     let mut m = [0u8; 32];
@@ -124,7 +130,7 @@ fn hashed(rnd1: [u8; 16], text: [u8; 240], sum: u32) -> steps::Hashing
 }
 
 struct Opened {
-    text: [u8; 240],
+    text: [u8; Deciphered::TEXT],
     hash: [u8; 16],
     decipherments: usize,
     encipherments: usize,
@@ -167,7 +173,7 @@ struct Found {
     sum: u32,
 }
 
-fn compare_modes(modes: [ModeSlot; 16], v: u16, sum: u32) -> Found
+fn compare_modes(modes: [ModeSlot; Card::MODES], v: OpModeId, sum: u32) -> Found
     ensures { λ r. ⌜ r ≡ record { at = firstMode 0 v modes; count = counted comparison (modeSteps v modes); sum = sumFrom sum (modeSteps v modes) } ⌝ }
 {
     let mut at = Card::MODES;
@@ -177,10 +183,10 @@ fn compare_modes(modes: [ModeSlot; 16], v: u16, sum: u32) -> Found
     while i < Card::MODES {
         let k = modes[i];
         let w = k.id;
-        let c = steps::compare(true, v, k.held, w.0, s);
+        let c = steps::compare_modes(v, k.held, w, s);
         s = c.sum;
         count += c.count;
-        at = steps::keep(16, at, i, c.hit);
+        at = steps::keep(Card::MODES, at, i, c.hit);
         i += 1;
     }
     Found {
@@ -190,10 +196,10 @@ fn compare_modes(modes: [ModeSlot; 16], v: u16, sum: u32) -> Found
     }
 }
 
-fn op_mode(text: [u8; 240]) -> u16
+fn op_mode(text: [u8; Deciphered::TEXT]) -> OpModeId
     ensures { λ r. ⌜ r ≡ opMode text ⌝ }
 {
-    octets::word(text[0], text[1])
+    OpModeId(octets::word(text[0], text[1]))
 }
 
 // A text of t bytes ends with KeysHash.
@@ -218,19 +224,25 @@ fn sealed(s: &[u8], hash: [u8; 16], held: bool) -> bool
     }
 }
 
-fn accepts(opened: bool, lc: usize, text: [u8; 240], hash: [u8; 16], mode: usize) -> bool
+fn accepts(
+    opened: bool,
+    lc: usize,
+    text: [u8; Deciphered::TEXT],
+    hash: [u8; 16],
+    mode: usize,
+) -> bool
     requires { ⌜ lc < 256 ⌝ }
     ensures { λ r. ⌜ r ≡ accepting opened lc (part text 0 (16 * (lc / 16))) hash mode ⌝ }
 {
     let n = 16 * (lc / 16);
-    let good = sealed(&text[..n], hash, mode < 16);
+    let good = sealed(&text[..n], hash, mode < Card::MODES);
     octets::both(opened, octets::both(lc % 16 == 0, good))
 }
 
-fn mode_at(modes: [ModeSlot; 16], at: usize) -> ModeSlot
+fn mode_at(modes: [ModeSlot; Card::MODES], at: usize) -> ModeSlot
     ensures { λ r. ⌜ r ≡ getD modes at noMode ⌝ }
 {
-    if at < 16 {
+    if at < Card::MODES {
         modes[at]
     } else {
         ModeSlot {
@@ -264,16 +276,16 @@ fn source<'a>(accepted: bool, area: &'a [u8], mode: ModeSlot, fresh: &'a [u8], n
 
 fn reply_text(
     accepted: bool,
-    area: [u8; 1024],
+    area: [u8; Card::AREA],
     mode: ModeSlot,
     div: [u8; 16],
     fresh: &[u8],
     size: usize,
-) -> [u8; 96]
+) -> [u8; Answer::FINAL_MOST]
     requires { ⌜ (size ≤ 6) × (length (now fresh) ≡ 253) ⌝ }
     ensures { λ r. ⌜ r ≡ bufferOf (replyText accepted area mode div (now (fresh .entry)) size) ⌝ }
 {
-    let mut b = [0u8; 96];
+    let mut b = [0u8; Answer::FINAL_MOST];
     let n = 16 * size;
     let s = source(accepted, &area, mode, fresh, n);
     octets::copy_at(&mut b, 0, s);
@@ -313,7 +325,7 @@ fn reply(
     let key = choose(accepted, hash, shill);
     let e = steps::expand(key, sum);
     let rows = steps::round_keys(e);
-    let size = lesser(card.reply_size, 6);
+    let size = lesser(card.reply_size, Card::REPLY_MOST);
     let mut b = reply_text(accepted, area, mode, div, fresh, size);
     let n = 16 * size;
     let m = cbc::encipher(&key, &rows, [0u8; 16], &mut b[..n], e.sum);

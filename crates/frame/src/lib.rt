@@ -1,4 +1,6 @@
 //! What is checked of a call before its command is run.
+use plaid_types::Answer;
+use plaid_types::Fresh;
 ghost use mathlib.Core.Path.{_≡_};
 ghost use mathlib.Core.Bool.{_&&_, cond, not};
 ghost use lib.ListN.{length, drop};
@@ -50,7 +52,7 @@ fn rest_status(cmd: &[u8]) -> u16
     if cmd[n - 1] != 0 {
         return 0x6700;
     }
-    0x9000
+    Answer::OK
 }
 
 pub fn status(cmd: &[u8]) -> u16
@@ -77,19 +79,19 @@ pub fn status(cmd: &[u8]) -> u16
 pub fn check(cmd: &[u8], fresh: &[u8], room: usize) -> Verdict
     ensures { λ r. ⌜ r ≡ verdict (length (now (cmd .entry))) (frameOf (now (cmd .entry))) (now (fresh .entry)) room ⌝ }
 {
-    if fresh.len() != 253 {
+    if fresh.len() != Fresh::ALL {
         return Verdict {
             number: 8,
             status: 0,
         };
     }
-    if !no_zero(fresh, 50) {
+    if !no_zero(fresh, Fresh::FIRST) {
         return Verdict {
             number: 9,
             status: 0,
         };
     }
-    if room < 256 {
+    if room < Answer::INITIAL {
         return Verdict {
             number: 10,
             status: 0,

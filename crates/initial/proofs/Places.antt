@@ -12,6 +12,7 @@ use Rattle.work.specs.Laws.{sumFrom-append, counted-append}
 use Rattle.steps.specs.Laws.{kept-start, kept-last}
 use Rattle.list.specs.Ber.{entryAt}
 use Rattle.list.specs.declared.Entry.{Entry}
+use Rattle.plaid_types.specs.declared.KeySetId.{KeySetId}
 use Rattle.plaid_types.specs.declared.KeySetSlot.{KeySetSlot}
 use Rattle.initial.specs.Initial.{slotSteps, firstSlot, placeSteps, firstPlace}
 use Rattle.initial.specs.Told.{slotsFound, placesFound}
@@ -31,7 +32,7 @@ first-cases first f rest true e = simp e
 first-cases first f rest false e = simp e
 
 -- a place adds a comparison for each slot
-pub count-slots : {f : Found} (present : Bool) (v s : ℕ) (sets : List KeySetSlot) → length sets ≡ 8 → f ≡ slotsFound present v sets s → f .count ≡ 8
+pub count-slots : {f : Found} (present : Bool) (v : KeySetId) (s : ℕ) (sets : List KeySetSlot) → length sets ≡ 8 → f ≡ slotsFound present v sets s → f .count ≡ 8
 count-slots present v s sets l e = ap (λ (x : Found). x .count) e ∙ counted-slots comparison present v sets ∙ omega arith
 
 module _ (sets : List KeySetSlot) (formed : Bool) (d : List ℕ) where

@@ -72,7 +72,7 @@ module _ (c : Card) (d fresh : List ℕ) {f : Found} (lf : length fresh ≡ 253)
       → f .at < 8
       → rnd1 ≡ part fresh 0 16
       → e₁ ≡ over o 0 (headOf fresh)
-      → e₂ ≡ over e₁ 206 (str1 (getD (c .sets) (f .at) x .id .0) (c .«div_data») rnd1)
+      → e₂ ≡ over e₁ 206 (str1 (getD (c .sets) (f .at) x .id) (c .«div_data») rnd1)
       → (_≡_ {A = Initial}
       (record {
         handle = getD (c .sets) (f .at) x .handle;
@@ -88,7 +88,7 @@ module _ (c : Card) (d fresh : List ℕ) {f : Found} (lf : length fresh ≡ 253)
       let r : Reply = acceptedInitial c d fresh (getD (c .sets) (f .at) noSet) in
       let e : r ≡ initialReply c d fresh = is-accepted h in (
         rw (k, rn) (told-of r e refl ∙ ap toldInitial e),
-        block-writes fresh (str1 (getD (c .sets) (f .at) x .id .0) (c .«div_data») rnd1) o lf w₁ w₂
+        block-writes fresh (str1 (getD (c .sets) (f .at) x .id) (c .«div_data») rnd1) o lf w₁ w₂
             ∙ rw (k, rn) (ap (λ (y : Reply). over o 0 (y .bytes)) e),
       )
 

@@ -10,38 +10,39 @@ use lib.Dec.{eqb}
 use lib.ListN.{length, drop, getD, drop-of-length-le}
 use lib.Seq.{drop-cons}
 use Rattle.work.specs.Steps.{comparison, counted, sumFrom}
-use Rattle.steps.specs.Made.{matched, comparisonStep, kept}
+use Rattle.steps.specs.Made.{setMatched, setComparison, kept}
 use Rattle.steps.specs.Laws.{kept-next, kept-start, kept-last}
 use Rattle.steps.specs.declared.Compared.{Compared}
+use Rattle.plaid_types.specs.declared.KeySetId.{KeySetId}
 use Rattle.plaid_types.specs.declared.KeySetSlot.{KeySetSlot}
 use Rattle.initial.specs.Initial.{slotSteps, firstSlot}
 use Rattle.initial.specs.Told.{slotsFound}
 use Rattle.initial.specs.declared.Found.{Found}
 
 -- what one comparison gives
-abbrev pub comparedWith : Bool → ℕ → KeySetSlot → ℕ → Compared
+abbrev pub comparedWith : Bool → KeySetId → KeySetSlot → ℕ → Compared
 comparedWith present v k s =
     record {
-      hit = matched present v (k .held) (k .id .0);
-      count = counted comparison (comparisonStep present v (k .held) (k .id .0) ∷ []);
-      sum = sumFrom s (comparisonStep present v (k .held) (k .id .0) ∷ []);
+      hit = setMatched present v (k .held) (k .id);
+      count = counted comparison (setComparison present v (k .held) (k .id) ∷ []);
+      sum = sumFrom s (setComparison present v (k .held) (k .id) ∷ []);
     }
 
 -- before slot i of a place's comparisons, which start from the sum s₀
-pub record SlotsDone (present : Bool) (v : ℕ) (sets : List KeySetSlot) (s₀ i first count s : ℕ) : Type 0 where
+pub record SlotsDone (present : Bool) (v : KeySetId) (sets : List KeySetSlot) (s₀ i first count s : ℕ) : Type 0 where
   pub reach : i ≤ 8
   pub few : count ≤ i
   pub counts : count + counted comparison (slotSteps present v (drop i sets)) ≡ counted comparison (slotSteps present v sets)
   pub sums : sumFrom s (slotSteps present v (drop i sets)) ≡ sumFrom s₀ (slotSteps present v sets)
   pub firsts : cond (eqb first 8) (firstSlot i present v (drop i sets)) first ≡ firstSlot 0 present v sets
 
-module _ (present : Bool) (v : ℕ) (sets : List KeySetSlot) where
+module _ (present : Bool) (v : KeySetId) (sets : List KeySetSlot) where
   steps-next : (i : ℕ) (d : KeySetSlot) → i < length sets →
-      slotSteps present v (drop i sets) ≡ comparisonStep present v (getD sets i d .held) (getD sets i d .id .0) ∷ slotSteps present v (drop (i + 1) sets)
+      slotSteps present v (drop i sets) ≡ setComparison present v (getD sets i d .held) (getD sets i d .id) ∷ slotSteps present v (drop (i + 1) sets)
   steps-next i d h = rw (add-one, drop-cons sets i d)
 
   first-next : (i : ℕ) (d : KeySetSlot) → i < length sets →
-      firstSlot i present v (drop i sets) ≡ cond (matched present v (getD sets i d .held) (getD sets i d .id .0)) i (firstSlot (i + 1) present v (drop (i + 1) sets))
+      firstSlot i present v (drop i sets) ≡ cond (setMatched present v (getD sets i d .held) (getD sets i d .id)) i (firstSlot (i + 1) present v (drop (i + 1) sets))
   first-next i d h = rw (add-one, drop-cons sets i d)
 
   pub slots-start : (s : ℕ) → SlotsDone present v sets s 0 8 0 s

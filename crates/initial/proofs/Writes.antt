@@ -9,6 +9,7 @@ use Rattle.octets.specs.Lists.{over}
 use Rattle.octets.specs.Writes.{over-next}
 use Rattle.frame.specs.Declines.{padBytes}
 use Rattle.frame.specs.Laws.{length-pads}
+use Rattle.plaid_types.specs.declared.KeySetId.{KeySetId}
 use Rattle.initial.specs.Initial.{str1}
 use Rattle.initial.specs.Told.{headOf}
 
@@ -27,18 +28,18 @@ head-writes fresh d l q₁ q₂ q₃ =
     over-next d (0 ∷ 2 ∷ padBytes fresh) (0 ∷ []) 0 (omega (arith, length-pads fresh l)) (omega arith) (over-next d (0 ∷ 2 ∷ []) (padBytes fresh) 0 refl (omega arith) q₁ q₂) q₃
 
 pub str1-writes :
-    (id : ℕ) (div rnd1 d : List ℕ) {e₁ e₂ e₃ e₄ : List ℕ}
+    (id : KeySetId) (div rnd1 d : List ℕ) {e₁ e₂ e₃ e₄ : List ℕ}
     → length div ≡ 16
     → length rnd1 ≡ 16
     → 206 ≤ length d
-    → e₁ ≡ over d 206 (id / 256 ∷ id % 256 ∷ [])
+    → e₁ ≡ over d 206 (id .0 / 256 ∷ id .0 % 256 ∷ [])
     → e₂ ≡ over e₁ 208 div
     → e₃ ≡ over e₂ 224 rnd1
     → e₄ ≡ over e₃ 240 rnd1
     → e₄ ≡ over d 206 (str1 id div rnd1)
 unfolding str1
 str1-writes id div rnd1 d ld lr h q₁ q₂ q₃ q₄ =
-    let number : List ℕ = id / 256 ∷ id % 256 ∷ [] in
+    let number : List ℕ = id .0 / 256 ∷ id .0 % 256 ∷ [] in
     let w₂ = over-next d number div 206 refl h q₁ q₂ in
     let w₃ = over-next d (number ++ div) rnd1 206 (omega arith) h w₂ q₃ in
     over-next d (number ++ div ++ rnd1) rnd1 206 (omega (arith, length-append div rnd1)) h w₃ q₄

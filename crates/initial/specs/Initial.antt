@@ -6,22 +6,23 @@ use lib.Dec.{eqb, ltb}
 use lib.ListN.{getD}
 use Rattle.octets.specs.Lists.{part}
 use Rattle.work.specs.Steps.{Step}
-use Rattle.steps.specs.Made.{matched, comparisonStep}
+use Rattle.steps.specs.Made.{setMatched, setComparison}
 use Rattle.frame.specs.Declines.{padBytes}
 use Rattle.list.specs.Ber.{entryAt, placeCount, listed}
 use Rattle.plaid_types.specs.Cards.{noSession, noSet, Reply}
+use Rattle.plaid_types.specs.declared.KeySetId.{KeySetId}
 use Rattle.plaid_types.specs.declared.KeySetSlot.{KeySetSlot}
 use Rattle.plaid_types.specs.declared.Card.{Card}
 
 -- a place "compared with all eight slots", in order
-abbrev pub slotSteps : Bool → ℕ → List KeySetSlot → List Step
+abbrev pub slotSteps : Bool → KeySetId → List KeySetSlot → List Step
 slotSteps present v [] = []
-slotSteps present v (k ∷ ks) = comparisonStep present v (k .held) (k .id .0) ∷ slotSteps present v ks
+slotSteps present v (k ∷ ks) = setComparison present v (k .held) (k .id) ∷ slotSteps present v ks
 
 -- the first slot, counted from i, that matches a place; past the last where none does
-abbrev pub firstSlot : ℕ → Bool → ℕ → List KeySetSlot → ℕ
+abbrev pub firstSlot : ℕ → Bool → KeySetId → List KeySetSlot → ℕ
 firstSlot i present v [] = i
-firstSlot i present v (k ∷ ks) = cond (matched present v (k .held) (k .id .0)) i (firstSlot (suc i) present v ks)
+firstSlot i present v (k ∷ ks) = cond (setMatched present v (k .held) (k .id)) i (firstSlot (suc i) present v ks)
 
 -- the n places from place p of the data on: "empty slots and missing places included, which never match; a malformed list has only missing places"
 unfoldable pub placeSteps : List KeySetSlot → Bool → List ℕ → ℕ → ℕ → List Step
@@ -48,8 +49,8 @@ abbrev pub acceptsInitial : Card → List ℕ → Bool
 acceptsInitial c d = ltb (slotOf c d) 8
 
 -- "STR1 = KeySetID, DivData, RND1, RND1"
-unfoldable pub str1 : ℕ → List ℕ → List ℕ → List ℕ
-str1 id div rnd1 = id / 256 ∷ id % 256 ∷ (div ++ (rnd1 ++ rnd1))
+unfoldable pub str1 : KeySetId → List ℕ → List ℕ → List ℕ
+str1 id div rnd1 = id .0 / 256 ∷ id .0 % 256 ∷ (div ++ (rnd1 ++ rnd1))
 
 -- "The output block is 00 02, the pad bytes, 00, those 50 bytes."
 unfoldable pub blockOf : List ℕ → List ℕ → List ℕ
@@ -60,7 +61,7 @@ abbrev pub acceptedInitial : Card → List ℕ → List ℕ → KeySetSlot → R
 acceptedInitial c d fresh k =
     record {
       handle = k .handle;
-      bytes = blockOf fresh (str1 (k .id .0) (c .«div_data») (part fresh 0 16));
+      bytes = blockOf fresh (str1 (k .id) (c .«div_data») (part fresh 0 16));
       steps = initialSteps c d;
       session = record { opened = true; id = k .id; rnd1 = part fresh 0 16 };
     }

@@ -12,6 +12,7 @@ use Rattle.work.specs.Laws.{counted-append, times-none, times-more}
 use Rattle.frame.specs.Declines.{padBytes}
 use Rattle.list.specs.Ber.{entryAt, placeCount, listed}
 use Rattle.plaid_types.specs.Cards.{noSet}
+use Rattle.plaid_types.specs.declared.KeySetId.{KeySetId}
 use Rattle.plaid_types.specs.declared.KeySetSlot.{KeySetSlot}
 use Rattle.plaid_types.specs.declared.Card.{Card}
 use Rattle.initial.specs.Initial.{slotSteps, placeSteps, initialSteps, slotOf, acceptsInitial, str1, blockOf, acceptedInitial, refusedInitial, initialReply}
@@ -20,7 +21,7 @@ use Rattle.initial.specs.Initial.{slotSteps, placeSteps, initialSteps, s
 abbrev of-kind : ℕ → ℕ
 of-kind k = cond (eqb comparison k) 1 0
 
-pub counted-slots : (k : ℕ) (present : Bool) (v : ℕ) (sets : List KeySetSlot) → counted k (slotSteps present v sets) ≡ length sets * of-kind k
+pub counted-slots : (k : ℕ) (present : Bool) (v : KeySetId) (sets : List KeySetSlot) → counted k (slotSteps present v sets) ≡ length sets * of-kind k
 counted-slots k present v [] = times-none (eqb comparison k)
 counted-slots k present v (x ∷ xs) = ap (λ (n : ℕ). of-kind k + n) (counted-slots k present v xs) ∙ times-more (eqb comparison k) (length xs)
 
@@ -52,7 +53,7 @@ pub initial-counted : (k : ℕ) (c : Card) (d fresh : List ℕ) → length (c .s
 unfolding initialSteps
 initial-counted k c d fresh l = ap (counted k) (initial-steps c d fresh) ∙ counted-places k (c .sets) (listed d .formed) d (listed d .first) (placeCount d) l
 
-length-str1 : (id : ℕ) (div rnd1 : List ℕ) → length div ≡ 16 → length rnd1 ≡ 16 → length (str1 id div rnd1) ≡ 50
+length-str1 : (id : KeySetId) (div rnd1 : List ℕ) → length div ≡ 16 → length rnd1 ≡ 16 → length (str1 id div rnd1) ≡ 50
 unfolding str1
 length-str1 id div rnd1 ld lr = omega (arith, length-append div (rnd1 ++ rnd1), length-append rnd1 rnd1)
 
@@ -64,7 +65,7 @@ length-block fresh text lf lt =
 length-cases : (c : Card) (d fresh : List ℕ) (t : Bool) → length (c .«div_data») ≡ 16 → length fresh ≡ 253 →
     length (cond t (acceptedInitial c d fresh (getD (c .sets) (slotOf c d) noSet)) (refusedInitial c d fresh) .bytes) ≡ 256
 length-cases c d fresh true ld lf =
-    length-block fresh _ lf (length-str1 (getD (c .sets) (slotOf c d) noSet .id .0) (c .«div_data») (part fresh 0 16) ld (length-part fresh 0 16 (omega arith)))
+    length-block fresh _ lf (length-str1 (getD (c .sets) (slotOf c d) noSet .id) (c .«div_data») (part fresh 0 16) ld (length-part fresh 0 16 (omega arith)))
 length-cases c d fresh false ld lf = length-block fresh (part fresh 0 50) lf (length-part fresh 0 50 (omega arith))
 
 -- "Answer length: 256"

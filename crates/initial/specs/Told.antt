@@ -7,13 +7,14 @@ use Rattle.work.specs.Steps.{comparison, counted, sumFrom, workSum}
 use Rattle.frame.specs.Declines.{padBytes}
 use Rattle.list.specs.Ber.{placeCount, listed}
 use Rattle.plaid_types.specs.Cards.{Reply}
+use Rattle.plaid_types.specs.declared.KeySetId.{KeySetId}
 use Rattle.plaid_types.specs.declared.KeySetSlot.{KeySetSlot}
 use Rattle.initial.specs.Initial.{slotSteps, firstSlot, placeSteps, firstPlace}
 use Rattle.initial.specs.declared.Found.{Found}
 use Rattle.initial.specs.declared.Initial.{Initial}
 
 -- of a place's comparisons: the first slot that matches, the count, and the sum from s on
-abbrev pub slotsFound : Bool → ℕ → List KeySetSlot → ℕ → Found
+abbrev pub slotsFound : Bool → KeySetId → List KeySetSlot → ℕ → Found
 slotsFound present v sets s =
     record {
       at = firstSlot 0 present v sets;

@@ -1,6 +1,8 @@
 //! The initial command: the places of its list against the key sets of a card, and the block that answers it.
 use plaid_types::Answer;
 use plaid_types::Card;
+use plaid_types::Fresh;
+use plaid_types::KeySetId;
 use plaid_types::KeySetSlot;
 use plaid_types::Session;
 ghost use mathlib.Core.Path.{_≡_};
@@ -21,7 +23,7 @@ pub struct Found {
 }
 
 // A place against all eight slots, with no early end.
-fn compare_slots(sets: [KeySetSlot; 8], present: bool, v: u16, sum: u32) -> Found
+fn compare_slots(sets: [KeySetSlot; Card::KEY_SETS], present: bool, v: KeySetId, sum: u32) -> Found
     ensures { λ r. ⌜ r ≡ slotsFound present v sets sum ⌝ }
 {
     let mut at = Card::KEY_SETS;
@@ -31,10 +33,10 @@ fn compare_slots(sets: [KeySetSlot; 8], present: bool, v: u16, sum: u32) -> Foun
     while i < Card::KEY_SETS {
         let k = sets[i];
         let w = k.id;
-        let c = steps::compare(present, v, k.held, w.0, s);
+        let c = steps::compare_sets(present, v, k.held, w, s);
         s = c.sum;
         count += c.count;
-        at = steps::keep(8, at, i, c.hit);
+        at = steps::keep(Card::KEY_SETS, at, i, c.hit);
         i += 1;
     }
     Found {
@@ -48,11 +50,11 @@ fn compare_slots(sets: [KeySetSlot; 8], present: bool, v: u16, sum: u32) -> Foun
 fn first_of(at: usize, f: usize) -> usize
     ensures { λ r. ⌜ r ≡ cond (eqb at 8) f at ⌝ }
 {
-    if at == 8 { f } else { at }
+    if at == Card::KEY_SETS { f } else { at }
 }
 
 // Every place of the list against every slot, missing places and empty slots too.
-fn compare_places(sets: [KeySetSlot; 8], d: &[u8]) -> Found
+fn compare_places(sets: [KeySetSlot; Card::KEY_SETS], d: &[u8]) -> Found
     requires { ⌜ length (now d) < 256 ⌝ }
     ensures { λ r. ⌜ r ≡ dataFound sets (now (d .entry)) ⌝ }
 {
@@ -65,7 +67,8 @@ fn compare_places(sets: [KeySetSlot; 8], d: &[u8]) -> Found
     let mut j: usize = 0;
     while j < n {
         let e = list::step_from(d, p);
-        let f = compare_slots(sets, octets::both(l.formed, e.ok), e.id, s);
+        let id = e.id;
+        let f = compare_slots(sets, octets::both(l.formed, e.ok), id, s);
         s = f.sum;
         count += f.count;
         at = first_of(at, f.at);
@@ -84,14 +87,14 @@ fn first_fifty(fresh: &[u8]) -> &[u8]
     requires { ⌜ 50 ≤ length (now fresh) ⌝ }
     ensures { λ r. ⌜ now r ≡ part (now (fresh .entry)) 0 50 ⌝ }
 {
-    &fresh[..50]
+    &fresh[..Fresh::FIRST]
 }
 
 fn pad_bytes(fresh: &[u8]) -> &[u8]
     requires { ⌜ 50 ≤ length (now fresh) ⌝ }
     ensures { λ r. ⌜ now r ≡ padBytes (now (fresh .entry)) ⌝ }
 {
-    &fresh[50..]
+    &fresh[Fresh::FIRST..]
 }
 
 // What stands before the fifty bytes: 00 02, the pad bytes, 00.
@@ -107,11 +110,11 @@ fn head(fresh: &[u8], out: &mut [u8])
 }
 
 // The fifty bytes of an accepted command: KeySetID, DivData, RND1, RND1.
-fn str1(id: u16, div: [u8; 16], rnd1: [u8; 16], out: &mut [u8])
+fn str1(id: KeySetId, div: [u8; 16], rnd1: [u8; 16], out: &mut [u8])
     requires { ⌜ 256 ≤ length (now out) ⌝ }
     ensures { λ _. ⌜ now (out .exit) ≡ over (now (out .entry)) 206 (str1 id div rnd1) ⌝ }
 {
-    let number = [(id / 256) as u8, (id % 256) as u8];
+    let number = [(id.0 / 256) as u8, (id.0 % 256) as u8];
     octets::copy_at(out, 206, &number);
     octets::copy_at(out, 208, &div);
     octets::copy_at(out, 224, &rnd1);
@@ -142,7 +145,7 @@ pub fn run(card: Card, d: &[u8], fresh: &[u8], out: &mut [u8]) -> Initial
         let id = k.id;
         let div = card.div_data;
         let rnd1 = octets::block_at(fresh, 0);
-        str1(id.0, div, rnd1, out);
+        str1(id, div, rnd1, out);
         return Initial {
             handle: k.handle,
             comparisons: f.count,

@@ -20,14 +20,14 @@ lengthAt d p =
     (noLength p)
 
 abbrev pub noEntry : ℕ → Entry
-noEntry p = record { ok = false; id = 0; next = p }
+noEntry p = record { ok = false; id = record { 0 = 0 }; next = p }
 
 -- "entries of tag 04, length 2, KeySetID": the entry at place p, with the place behind it; where there is none, p itself
 unfoldable pub entryAt : List ℕ → ℕ → Entry
 entryAt d p =
     let l : Length = lengthAt d (p + 1) in
     cond (ltb p (length d) && (eqb (getD d p 0) 4 && (l .ok && (eqb (l .value) 2 && ltb (l .next + 1) (length d)))))
-    (record { ok = true; id = getD d (l .next) 0 * 256 + getD d (l .next + 1) 0; next = l .next + 2 })
+    (record { ok = true; id = record { 0 = getD d (l .next) 0 * 256 + getD d (l .next + 1) 0 }; next = l .next + 2 })
     (noEntry p)
 
 -- "tag 30, length", a length that says just what is left of the data

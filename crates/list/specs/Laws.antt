@@ -62,7 +62,7 @@ pub record Seen (d : List ℕ) (p m : ℕ) : Type 0 where
   pub content : m + 1 < length d
 
 abbrev pub theEntry : List ℕ → ℕ → Entry
-theEntry d m = record { ok = true; id = getD d m 0 * 256 + getD d (m + 1) 0; next = m + 2 }
+theEntry d m = record { ok = true; id = record { 0 = getD d m 0 * 256 + getD d (m + 1) 0 }; next = m + 2 }
 
 pub seen-entry : {d : List ℕ} {p m : ℕ} → Seen d p m → entryAt d p ≡ theEntry d m
 unfolding entryAt

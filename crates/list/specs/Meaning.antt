@@ -56,7 +56,7 @@ length-seen {d} {b} {r} {p} {v} long a =
 -- the bytes of an entry are an entry where they stand
 record EntrySeen (d : List ℕ) (p k : ℕ) (r : List ℕ) : Type 0 where
   pub n : ℕ
-  pub is : entryAt d p ≡ record { ok = true; id = k; next = n }
+  pub is : entryAt d p ≡ record { ok = true; id = record { 0 = k }; next = n }
   pub rest : At d n r
 
 entry-seen : {d b r : List ℕ} {p k high low : ℕ} → k ≡ high * 256 + low → IsLength 2 (high ∷ low ∷ r) b → At d p (4 ∷ b) → EntrySeen d p k r
@@ -69,35 +69,35 @@ entry-seen {d} {b} {r} {p} {k} {high} {low} q l a =
     let i : getD d (s .n) 0 * 256 + getD d (s .n + 1) 0 ≡ k = rw (x .byte, y .byte) (sym q) in
     record {
       n = s .n + 2;
-      is = seen-entry (record { tag = t .byte; sized = s .sized; content = y .within }) ∙ ap (λ (j : ℕ). record { ok = true; id = j; next = s .n + 2 }) i;
+      is = seen-entry (record { tag = t .byte; sized = s .sized; content = y .within }) ∙ ap (λ (j : ℕ). record { ok = true; id = record { 0 = j }; next = s .n + 2 }) i;
       rest = rw e at (y .rest);
     }
 
 -- the entry at place p is that of the KeySetID k
 pub record Place (d : List ℕ) (p k : ℕ) : Type 0 where
   pub ok : entryAt d p .ok ≡ true
-  pub id : entryAt d p .id ≡ k
+  pub id : entryAt d p .id .0 ≡ k
 
 -- the walk over the bytes of entries finds each in its place, and ends where they end
 record Walks (d : List ℕ) (p : ℕ) (ids : List ℕ) : Type 0 where
   pub end : walked d p (length ids) ≡ length d
   pub place : (j : ℕ) → j < length ids → Place d (walked d p j) (getD ids j 0)
 
-walk-on : (d : List ℕ) (p k n j : ℕ) → entryAt d p ≡ record { ok = true; id = k; next = n } → walked d p (suc j) ≡ walked d n j
+walk-on : (d : List ℕ) (p k n j : ℕ) → entryAt d p ≡ record { ok = true; id = record { 0 = k }; next = n } → walked d p (suc j) ≡ walked d n j
 walk-on d p k n j e = walked-front d p j ∙ ap (λ (x : Entry). walked d (x .next) j) e
 
 place-cons :
     (d : List ℕ) (p k n : ℕ) (ids : List ℕ)
-    → entryAt d p ≡ record { ok = true; id = k; next = n }
+    → entryAt d p ≡ record { ok = true; id = record { 0 = k }; next = n }
     → Walks d n ids
     → (j : ℕ)
     → j < length (k ∷ ids)
     → Place d (walked d p j) (getD (k ∷ ids) j 0)
 unfolding walked
-place-cons d p k n ids e w zero h = record { ok = ap (λ (x : Entry). x .ok) e; id = ap (λ (x : Entry). x .id) e }
+place-cons d p k n ids e w zero h = record { ok = ap (λ (x : Entry). x .ok) e; id = ap (λ (x : Entry). x .id .0) e }
 place-cons d p k n ids e w (suc j) h = rw (walk-on d p k n j e) (w .place j (omega arith))
 
-walks-cons : (d : List ℕ) (p k n : ℕ) (ids : List ℕ) → entryAt d p ≡ record { ok = true; id = k; next = n } → Walks d n ids → Walks d p (k ∷ ids)
+walks-cons : (d : List ℕ) (p k n : ℕ) (ids : List ℕ) → entryAt d p ≡ record { ok = true; id = record { 0 = k }; next = n } → Walks d n ids → Walks d p (k ∷ ids)
 walks-cons d p k n ids e w = record { end = walk-on d p k n (length ids) e ∙ w .end; place = place-cons d p k n ids e w }
 
 walks : {d b : List ℕ} {p : ℕ} {ids : List ℕ} → AreEntries ids b → At d p b → Walks d p ids
@@ -217,10 +217,10 @@ pub encoded-walk : (ids : List ℕ) → length ids < 32 → (j : ℕ) → j ≤ 
 unfolding encoded
 encoded-walk ids h j l = rw (encoded-first ids h) (walks-short ids (record { start = omega arith; rest = refl }) j l)
 
-same-entry : (e : Entry) (b : Bool) (k n : ℕ) → e .ok ≡ b → e .id ≡ k → e .next ≡ n → e ≡ record { ok = b; id = k; next = n }
+same-entry : (e : Entry) (b : Bool) (k n : ℕ) → e .ok ≡ b → e .id .0 ≡ k → e .next ≡ n → e ≡ record { ok = b; id = record { 0 = k }; next = n }
 same-entry e b k n p q r = rw (← p, ← q, ← r)
 
-pub encoded-entry : (ids : List ℕ) → length ids < 32 → (j : ℕ) → j < length ids → entryAt (encoded ids) (2 + 4 * j) ≡ record { ok = true; id = getD ids j 0; next = 6 + 4 * j }
+pub encoded-entry : (ids : List ℕ) → length ids < 32 → (j : ℕ) → j < length ids → entryAt (encoded ids) (2 + 4 * j) ≡ record { ok = true; id = record { 0 = getD ids j 0 }; next = 6 + 4 * j }
 encoded-entry ids h j l =
     let w = encoded-walk ids h j (omega arith) in
     let p = encoded-place ids h j l in

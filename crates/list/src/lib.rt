@@ -1,4 +1,5 @@
 //! The list of an initial command: SEQUENCE OF OCTET STRING of size 2.
+use plaid_types::KeySetId;
 ghost use mathlib.Core.Path.{_≡_};
 ghost use Prim.Native.Nat.{_+_};
 ghost use Rattle.list.specs.Ber.{lengthAt, entryAt, head, walked, listed, noLength, noEntry};
@@ -50,7 +51,7 @@ fn length_at(d: &[u8], at: usize) -> Length
 
 pub struct Entry {
     pub ok: bool,
-    pub id: u16,
+    pub id: KeySetId,
     pub next: usize,
 }
 
@@ -59,7 +60,7 @@ fn no_entry(at: usize) -> Entry
 {
     Entry {
         ok: false,
-        id: 0,
+        id: KeySetId(0),
         next: at,
     }
 }
@@ -89,7 +90,7 @@ fn entry_at(d: &[u8], at: usize) -> Entry
     let low = d[p + 1];
     Entry {
         ok: true,
-        id: octets::word(high, low),
+        id: KeySetId(octets::word(high, low)),
         next: p + 2,
     }
 }

@@ -10,6 +10,7 @@ use lib.Dec.{eqb}
 use lib.ListN.{length, getD, take, drop, set, replicate, length-take, drop-of-length-le}
 use lib.Seq.{length-take-le, drop-cons, getD-take, take-all, paste, paste-suc}
 use Rattle.load.specs.Load.{some, repeated, filled}
+use Rattle.load.specs.Laws.{map-take}
 
 -- what the i-th of the first n elements leaves behind it
 next : {A : Type 0} (l : List A) (n i : ℕ) (d : A) → i < n → n ≤ length l → drop i (take n l) ≡ getD l i d ∷ drop (i + 1) (take n l)
@@ -72,11 +73,6 @@ copy-filled {A = A} d s k i h =
     ap₂ (λ (m n : ℕ). take i s ++ drop m (replicate n d)) (zero-add i) e
     ∙ ap (λ (x : List A). take i s ++ x) (drop-replicate d i k)
     ∙ ap (λ (m : ℕ). take i s ++ replicate (k - m) d) (sym (length-take-le i s h))
-
-pub map-take : {A B : Type 0} (f : A → B) (n : ℕ) (l : List A) → take n (map f l) ≡ map f (take n l)
-map-take f zero l = refl
-map-take f (suc n) [] = refl
-map-take {B = B} f (suc n) (x ∷ xs) = ap (λ (t : List B). f x ∷ t) (map-take f n xs)
 
 -- what the look finds in the numbers of a whole list, of the numbers of its first n
 pub given-once : {A : Type 0} (f : A → ℕ) (l : List A) (n : ℕ) (ids : List ℕ) (r t : Bool) → r ≡ repeated (take n ids) → ids ≡ map f l → r ≡ t → repeated (map f (take n l)) ≡ t

@@ -32,6 +32,12 @@ first-size l zero h k = absurd (not-suc-le-zero h)
 first-size [] (suc n) h k = absurd (not-suc-le-zero k)
 first-size (m ∷ ms) (suc n) h k = refl
 
+-- the first n of a list, mapped
+pub map-take : {A B : Type 0} (f : A → B) (n : ℕ) (l : List A) → take n (map f l) ≡ map f (take n l)
+map-take f zero l = refl
+map-take f (suc n) [] = refl
+map-take {B = B} f (suc n) (x ∷ xs) = ap (λ (t : List B). f x ∷ t) (map-take f n xs)
+
 -- two tests of which neither holds
 pub neither : (a b : Bool) → (a || b) ≡ false → (a ≡ false) × (b ≡ false)
 neither true b e = let z : _≡_ {A = ℕ} 0 1 = cc in absurd (omega arith)

@@ -45,12 +45,12 @@ fn either(a: bool, b: bool) -> bool
     if a { true } else { b }
 }
 
-fn set_ids(sets: [KeySet; 8]) -> [u16; 8]
+fn set_ids(sets: [KeySet; Card::KEY_SETS]) -> [u16; Card::KEY_SETS]
     ensures { λ r. ⌜ r ≡ setIds sets ⌝ }
 {
-    let mut ids = [0u16; 8];
+    let mut ids = [0u16; Card::KEY_SETS];
     let mut i: usize = 0;
-    while i < 8 {
+    while i < Card::KEY_SETS {
         let k = sets[i];
         let id = k.id;
         ids[i] = id.0;
@@ -59,12 +59,12 @@ fn set_ids(sets: [KeySet; 8]) -> [u16; 8]
     ids
 }
 
-fn mode_ids(modes: [Mode; 16]) -> [u16; 16]
+fn mode_ids(modes: [Mode; Card::MODES]) -> [u16; Card::MODES]
     ensures { λ r. ⌜ r ≡ modeIds modes ⌝ }
 {
-    let mut ids = [0u16; 16];
+    let mut ids = [0u16; Card::MODES];
     let mut i: usize = 0;
-    while i < 16 {
+    while i < Card::MODES {
         let m = modes[i];
         let id = m.id;
         ids[i] = id.0;
@@ -102,7 +102,7 @@ pub fn repeats(ids: &[u16], n: usize) -> bool
     r
 }
 
-fn has_handle(sets: [KeySet; 8], n: usize, handle: u8) -> bool
+fn has_handle(sets: [KeySet; Card::KEY_SETS], n: usize, handle: u8) -> bool
     requires { ⌜ n ≤ 8 ⌝ }
     ensures { λ r. ⌜ r ≡ withHandle handle (take n sets) ⌝ }
 {
@@ -132,7 +132,7 @@ fn bad_record(m: Mode, area: usize) -> bool
     area - m.len < m.start
 }
 
-fn bad_records(modes: [Mode; 16], n: usize, area: usize) -> bool
+fn bad_records(modes: [Mode; Card::MODES], n: usize, area: usize) -> bool
     requires { ⌜ n ≤ 16 ⌝ }
     ensures { λ r. ⌜ r ≡ some (badRecord area) (take n modes) ⌝ }
 {
@@ -152,7 +152,7 @@ fn reply_size(m: Mode) -> usize
     padding::blocks_for(m.len) + 1
 }
 
-fn sizes_differ(modes: [Mode; 16], n: usize) -> bool
+fn sizes_differ(modes: [Mode; Card::MODES], n: usize) -> bool
     requires { ⌜ (0 < n) × (n ≤ 16) ⌝ }
     ensures { λ r. ⌜ r ≡ unequal (take n modes) ⌝ }
 {
@@ -166,7 +166,7 @@ fn sizes_differ(modes: [Mode; 16], n: usize) -> bool
     r
 }
 
-fn modes_fault(modes: [Mode; 16], n: usize, area: usize) -> u8
+fn modes_fault(modes: [Mode; Card::MODES], n: usize, area: usize) -> u8
     ensures { λ r. ⌜ r ≡ modesRefusal modes n area ⌝ }
 {
     if n == 0 {
@@ -191,7 +191,14 @@ fn modes_fault(modes: [Mode; 16], n: usize, area: usize) -> u8
     0
 }
 
-fn fault(sets: [KeySet; 8], n: usize, modes: [Mode; 16], m: usize, area: usize, handle: u8) -> u8
+fn fault(
+    sets: [KeySet; Card::KEY_SETS],
+    n: usize,
+    modes: [Mode; Card::MODES],
+    m: usize,
+    area: usize,
+    handle: u8,
+) -> u8
     ensures { λ r. ⌜ r ≡ refusal sets n modes m area handle ⌝ }
 {
     if n == 0 {
@@ -210,7 +217,7 @@ fn fault(sets: [KeySet; 8], n: usize, modes: [Mode; 16], m: usize, area: usize, 
     modes_fault(modes, m, area)
 }
 
-fn empty_sets() -> [KeySetSlot; 8]
+fn empty_sets() -> [KeySetSlot; Card::KEY_SETS]
     ensures { λ r. ⌜ r ≡ filled 8 noSet [] ⌝ }
 {
     let none = KeySetSlot {
@@ -219,10 +226,10 @@ fn empty_sets() -> [KeySetSlot; 8]
         handle: 0,
         fa_key: [0u8; 16],
     };
-    [none; 8]
+    [none; Card::KEY_SETS]
 }
 
-fn empty_modes() -> [ModeSlot; 16]
+fn empty_modes() -> [ModeSlot; Card::MODES]
     ensures { λ r. ⌜ r ≡ filled 16 noMode [] ⌝ }
 {
     let none = ModeSlot {
@@ -231,13 +238,13 @@ fn empty_modes() -> [ModeSlot; 16]
         start: 0,
         len: 0,
     };
-    [none; 16]
+    [none; Card::MODES]
 }
 
-fn empty_area() -> [u8; 1024]
+fn empty_area() -> [u8; Card::AREA]
     ensures { λ r. ⌜ r ≡ filled 1024 0 [] ⌝ }
 {
-    [0u8; 1024]
+    [0u8; Card::AREA]
 }
 
 fn set_slot(k: KeySet) -> KeySetSlot
@@ -265,7 +272,7 @@ fn mode_slot(m: Mode) -> ModeSlot
     }
 }
 
-fn set_slots(sets: [KeySet; 8], n: usize) -> [KeySetSlot; 8]
+fn set_slots(sets: [KeySet; Card::KEY_SETS], n: usize) -> [KeySetSlot; Card::KEY_SETS]
     requires { ⌜ n ≤ 8 ⌝ }
     ensures { λ r. ⌜ r ≡ filled 8 noSet (map setSlot (take n sets)) ⌝ }
 {
@@ -279,7 +286,7 @@ fn set_slots(sets: [KeySet; 8], n: usize) -> [KeySetSlot; 8]
     slots
 }
 
-fn mode_slots(modes: [Mode; 16], n: usize) -> [ModeSlot; 16]
+fn mode_slots(modes: [Mode; Card::MODES], n: usize) -> [ModeSlot; Card::MODES]
     requires { ⌜ n ≤ 16 ⌝ }
     ensures { λ r. ⌜ r ≡ filled 16 noMode (map modeSlot (take n modes)) ⌝ }
 {
@@ -293,7 +300,7 @@ fn mode_slots(modes: [Mode; 16], n: usize) -> [ModeSlot; 16]
     slots
 }
 
-fn copied(area: &[u8]) -> [u8; 1024]
+fn copied(area: &[u8]) -> [u8; Card::AREA]
     requires { ⌜ length (now area) ≤ 1024 ⌝ }
     ensures { λ r. ⌜ r ≡ filled 1024 0 (now (area .entry)) ⌝ }
 {
@@ -323,9 +330,9 @@ pub fn blank() -> Card
 }
 
 pub fn load(
-    sets: [KeySet; 8],
+    sets: [KeySet; Card::KEY_SETS],
     set_count: usize,
-    modes: [Mode; 16],
+    modes: [Mode; Card::MODES],
     mode_count: usize,
     area: &[u8],
     div_data: [u8; 16],

@@ -6,6 +6,7 @@ use plaid_types::KeySetId;
 use plaid_types::Mode;
 use plaid_types::OpModeId;
 use plaid_types::Outcome;
+use plaid_types::Reader;
 use reader_accept::Accepted;
 use reader_list::Written;
 use reader_open::Opened;
@@ -25,7 +26,7 @@ ghost use Rattle.plaid.specs.Interface.{blankSet, loadOf, recordAt};
 // What a load is given beside the key sets and the record area. What stands past the count is not looked at.
 #[repr(C)]
 pub struct Given {
-    pub modes: [Mode; 16],
+    pub modes: [Mode; Card::MODES],
     pub mode_count: usize,
     pub div_data: [u8; 16],
     pub shill_key: [u8; 16],
@@ -113,7 +114,7 @@ pub extern "C" fn plaid_command(card: Card, command: &[u8], fresh: &[u8], out: &
 // The reader's KeySetIDs in order of preference: the first so many.
 #[repr(C)]
 pub struct Ids {
-    pub ids: [KeySetId; 16],
+    pub ids: [KeySetId; Reader::IDS],
     pub count: usize,
 }
 
@@ -146,8 +147,8 @@ pub struct Sealing {
 
 #[no_mangle]
 pub extern "C" fn plaid_seal(of: Sealing, payload: &[u8], out: &mut [u8]) -> Sealed
-    ensures told { λ r. ⌜ r ≡ sealedOf (of .«fa_key») (of .«div_data») (of .rnd1) (of .rnd2) (of .mode .0) (now (payload .entry)) (length (now (out .entry))) ⌝ }
-    ensures bytes { λ _. ⌜ now (out .exit) ≡ sealOutput (of .«fa_key») (of .«div_data») (of .rnd1) (of .rnd2) (of .mode .0) (now (payload .entry)) (now (out .entry)) ⌝ }
+    ensures told { λ r. ⌜ r ≡ sealedOf (of .«fa_key») (of .«div_data») (of .rnd1) (of .rnd2) (of .mode) (now (payload .entry)) (length (now (out .entry))) ⌝ }
+    ensures bytes { λ _. ⌜ now (out .exit) ≡ sealOutput (of .«fa_key») (of .«div_data») (of .rnd1) (of .rnd2) (of .mode) (now (payload .entry)) (now (out .entry)) ⌝ }
 {
     let fa_key = of.fa_key;
     let div_data = of.div_data;

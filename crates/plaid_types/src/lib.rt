@@ -77,9 +77,9 @@ impl Session {
 
 #[repr(C)]
 pub struct Card {
-    pub sets: [KeySetSlot; 8],
-    pub modes: [ModeSlot; 16],
-    pub area: [u8; 1024],
+    pub sets: [KeySetSlot; Card::KEY_SETS],
+    pub modes: [ModeSlot; Card::MODES],
+    pub area: [u8; Card::AREA],
     pub div_data: [u8; 16],
     pub shill_key: [u8; 16],
     pub shill_handle: u8,
@@ -95,6 +95,9 @@ impl Card {
     pub const AREA: usize = 1024;
 
     pub const RECORD: usize = 64;
+
+    // The largest reply size B.
+    pub const REPLY_MOST: usize = 6;
 
     // The same card with another session.
     pub fn with_session(mut self, s: Session) -> Card
@@ -122,6 +125,11 @@ pub struct Answer {
 impl Answer {
     pub const INITIAL: usize = 256;
 
+    // A final answer is 16B bytes.
+    pub const FINAL_LEAST: usize = 32;
+
+    pub const FINAL_MOST: usize = 96;
+
     pub const OK: u16 = 0x9000;
 }
 
@@ -131,4 +139,24 @@ pub struct Outcome {
     pub answer: Answer,
     pub sum: u32,
     pub card: Card,
+}
+
+// The fresh bytes of a command call: F is the first 50, the other 203 are the pad bytes.
+pub struct Fresh;
+
+impl Fresh {
+    pub const ALL: usize = 253;
+
+    pub const FIRST: usize = 50;
+
+    pub const PADS: usize = 203;
+}
+
+// What a reader lists and seals, at most.
+pub struct Reader;
+
+impl Reader {
+    pub const IDS: usize = 16;
+
+    pub const PAYLOAD: usize = 205;
 }

@@ -1,4 +1,5 @@
 //! The reader's Accept: a card's answer to a final command.
+use plaid_types::Answer;
 ghost use mathlib.Core.Path.{_≡_};
 ghost use mathlib.Core.Bool.{true, cond};
 ghost use Prim.Native.Nat.{_-_, _≤_};
@@ -25,7 +26,7 @@ pub struct Accepted {
 fn known_length(n: usize) -> bool
     ensures { λ r. ⌜ r ≡ knownLength n ⌝ }
 {
-    if n == 32 {
+    if n == Answer::FINAL_LEAST {
         return true;
     }
     if n == 48 {
@@ -37,7 +38,7 @@ fn known_length(n: usize) -> bool
     if n == 80 {
         return true;
     }
-    n == 96
+    n == Answer::FINAL_MOST
 }
 
 // The response deciphered, in the first bytes of the work buffer.
@@ -83,7 +84,7 @@ fn clear(work: &mut [u8], n: usize)
     requires { ⌜ (n ≤ 96) × (n ≤ length (now work)) ⌝ }
     ensures { λ _. ⌜ now (work .exit) ≡ over (now (work .entry)) 0 (replicate n 0) ⌝ }
 {
-    let zeros = [0u8; 96];
+    let zeros = [0u8; Answer::FINAL_MOST];
     octets::copy_at(work, 0, &zeros[..n]);
 }
 

@@ -1,5 +1,6 @@
 //! The reader's List: the initial command for its key sets.
 use plaid_types::KeySetId;
+use plaid_types::Reader;
 ghost use mathlib.Core.Path.{_≡_};
 ghost use Prim.Native.Nat.{_+_, _*_, _≤_};
 ghost use lib.ListN.{length};
@@ -24,12 +25,12 @@ fn declined(number: u8) -> Written
     }
 }
 
-fn numbers(ids: [KeySetId; 16]) -> [u16; 16]
+fn numbers(ids: [KeySetId; Reader::IDS]) -> [u16; Reader::IDS]
     ensures { λ r. ⌜ r ≡ numbers ids ⌝ }
 {
-    let mut n = [0u16; 16];
+    let mut n = [0u16; Reader::IDS];
     let mut i: usize = 0;
-    while i < 16 {
+    while i < Reader::IDS {
         let k = ids[i];
         n[i] = k.0;
         i += 1;
@@ -66,14 +67,14 @@ fn command(ids: &[u16], out: &mut [u8]) -> usize
     n + 8
 }
 
-pub fn list(ids: [KeySetId; 16], count: usize, out: &mut [u8]) -> Written
+pub fn list(ids: [KeySetId; Reader::IDS], count: usize, out: &mut [u8]) -> Written
     ensures { λ r. ⌜ r ≡ listed ids count (length (now (out .entry))) ⌝ }
     ensures { λ _. ⌜ now (out .exit) ≡ listOutput ids count (now (out .entry)) ⌝ }
 {
     if count == 0 {
         return declined(11);
     }
-    if 16 < count {
+    if Reader::IDS < count {
         return declined(11);
     }
     let all = numbers(ids);

@@ -18,14 +18,14 @@ pub long-part : (l : List ℕ) (at n : ℕ) {r : List ℕ} → at + n ≤ length
 long-part l at n h e = ap length e ∙ length-part l at n h
 
 first-next : (blocks : List ℕ) (ids : List KeySetId) (n i : ℕ) → i < n → n ≤ length ids →
-    firstOpen blocks i (drop i (take n ids)) ≡ cond (opensAs (getD ids i noId .0) (blockAt blocks i)) i (firstOpen blocks (i + 1) (drop (i + 1) (take n ids)))
+    firstOpen blocks i (drop i (take n ids)) ≡ cond (opensAs (getD ids i noId) (blockAt blocks i)) i (firstOpen blocks (i + 1) (drop (i + 1) (take n ids)))
 first-next blocks ids n i h k =
     let l : i < length (take n ids) = omega (arith, length-take-le n ids k) in
     rw (add-one, drop-cons (take n ids) i noId, getD-take n ids i noId h)
 
 -- `first` is the winner so far, or n; what is found from place i on, with it, is the winner
 pub first-turn : (blocks : List ℕ) (ids : List KeySetId) (n i first : ℕ) {next : ℕ} {hit : Bool} → i < n → n ≤ length ids →
-    hit ≡ opensAs (getD ids i noId .0) (blockAt blocks i) → next ≡ kept n first i hit →
+    hit ≡ opensAs (getD ids i noId) (blockAt blocks i) → next ≡ kept n first i hit →
     cond (eqb first n) (firstOpen blocks i (drop i (take n ids))) first ≡ winner ids n blocks →
     cond (eqb next n) (firstOpen blocks (i + 1) (drop (i + 1) (take n ids))) next ≡ winner ids n blocks
 first-turn blocks ids n i first {next} {hit} h k o q e =

@@ -18,7 +18,7 @@ use Rattle.reader_open.specs.Open.{formed, textOf, opensAs, blockAt, fir
 
 -- whether the block of the entry at place i of l opens; the blocks are counted from j
 abbrev opensAt : List ℕ → ℕ → List KeySetId → ℕ → Bool
-opensAt blocks j l i = opensAs (getD l i noId .0) (blockAt blocks (j + i))
+opensAt blocks j l i = opensAs (getD l i noId) (blockAt blocks (j + i))
 
 -- what the search finds: the first that opens, or that none does
 data Search (blocks : List ℕ) (j : ℕ) (l : List KeySetId) : Type 0 where
@@ -26,31 +26,31 @@ data Search (blocks : List ℕ) (j : ℕ) (l : List KeySetId) : Type 0 where
   none : ((m : ℕ) → m < length l → opensAt blocks j l m ≡ false) → firstOpen blocks j l ≡ j + length l → Search blocks j l
 
 -- the entry in front of those from place suc j on
-behind : (blocks : List ℕ) (j : ℕ) (k : KeySetId) (l : List KeySetId) (n : ℕ) → opensAs (k .0) (blockAt blocks j) ≡ false →
+behind : (blocks : List ℕ) (j : ℕ) (k : KeySetId) (l : List KeySetId) (n : ℕ) → opensAs k (blockAt blocks j) ≡ false →
     ((m : ℕ) → m < n → opensAt blocks (suc j) l m ≡ false) → (m : ℕ) → m < suc n → opensAt blocks j (k ∷ l) m ≡ false
-behind blocks j k l n e f zero h = ap (λ (x : ℕ). opensAs (k .0) (blockAt blocks x)) (add-zero j) ∙ e
+behind blocks j k l n e f zero h = ap (λ (x : ℕ). opensAs k (blockAt blocks x)) (add-zero j) ∙ e
 behind blocks j k l n e f (suc m) h =
-    ap (λ (x : ℕ). opensAs (getD l m noId .0) (blockAt blocks x)) (add-suc j m ∙ sym (suc-add j m)) ∙ f m (le-of-suc-le-suc h)
+    ap (λ (x : ℕ). opensAs (getD l m noId) (blockAt blocks x)) (add-suc j m ∙ sym (suc-add j m)) ∙ f m (le-of-suc-le-suc h)
 
-search-on : (blocks : List ℕ) (j : ℕ) (k : KeySetId) (l : List KeySetId) → opensAs (k .0) (blockAt blocks j) ≡ false → Search blocks (suc j) l → Search blocks j (k ∷ l)
+search-on : (blocks : List ℕ) (j : ℕ) (k : KeySetId) (l : List KeySetId) → opensAs k (blockAt blocks j) ≡ false → Search blocks (suc j) l → Search blocks j (k ∷ l)
 search-on blocks j k l e (wins i h o f q) =
-    wins (suc i) (omega arith) (ap (λ (x : ℕ). opensAs (getD l i noId .0) (blockAt blocks x)) (add-suc j i ∙ sym (suc-add j i)) ∙ o)
+    wins (suc i) (omega arith) (ap (λ (x : ℕ). opensAs (getD l i noId) (blockAt blocks x)) (add-suc j i ∙ sym (suc-add j i)) ∙ o)
     (behind blocks j k l i e f)
     (simp e (q ∙ omega arith))
 search-on blocks j k l e (none f q) = none (behind blocks j k l (length l) e f) (simp e (q ∙ omega arith))
 
-search-by : (blocks : List ℕ) (j : ℕ) (k : KeySetId) (l : List KeySetId) (t : Bool) → opensAs (k .0) (blockAt blocks j) ≡ t → Search blocks (suc j) l → Search blocks j (k ∷ l)
+search-by : (blocks : List ℕ) (j : ℕ) (k : KeySetId) (l : List KeySetId) (t : Bool) → opensAs k (blockAt blocks j) ≡ t → Search blocks (suc j) l → Search blocks j (k ∷ l)
 search-by blocks j k l true e s =
-    wins 0 (omega arith) (ap (λ (x : ℕ). opensAs (k .0) (blockAt blocks x)) (add-zero j) ∙ e) (λ m h. absurd (not-suc-le-zero h)) (simp e (sym (add-zero j)))
+    wins 0 (omega arith) (ap (λ (x : ℕ). opensAs k (blockAt blocks x)) (add-zero j) ∙ e) (λ m h. absurd (not-suc-le-zero h)) (simp e (sym (add-zero j)))
 search-by blocks j k l false e s = search-on blocks j k l e s
 
 searched : (blocks : List ℕ) (j : ℕ) (l : List KeySetId) → Search blocks j l
 searched blocks j [] = none (λ m h. absurd (not-suc-le-zero h)) (sym (add-zero j))
-searched blocks j (k ∷ l) = search-by blocks j k l (opensAs (k .0) (blockAt blocks j)) refl (searched blocks (suc j) l)
+searched blocks j (k ∷ l) = search-by blocks j k l (opensAs k (blockAt blocks j)) refl (searched blocks (suc j) l)
 
 -- whether the block of entry i opens
 abbrev pub opensEntry : List KeySetId → List ℕ → ℕ → Bool
-opensEntry ids blocks i = opensAs (getD ids i noId .0) (blockAt blocks i)
+opensEntry ids blocks i = opensAs (getD ids i noId) (blockAt blocks i)
 
 -- the first to open of n entries
 pub record Wins (ids : List KeySetId) (n : ℕ) (blocks : List ℕ) (i : ℕ) : Type 0 where
@@ -64,7 +64,7 @@ pub data Winner (ids : List KeySetId) (n : ℕ) (blocks : List ℕ) : Type 0 whe
 
 module _ (ids : List KeySetId) (n : ℕ) (blocks : List ℕ) (fits : n ≤ length ids) where
   same-entry : (i : ℕ) → i < n → opensEntry ids blocks i ≡ opensAt blocks 0 (take n ids) i
-  same-entry i h = sym (ap₂ (λ (k : KeySetId) (j : ℕ). opensAs (k .0) (blockAt blocks j)) (getD-take n ids i noId h) (zero-add i))
+  same-entry i h = sym (ap₂ (λ (k : KeySetId) (j : ℕ). opensAs k (blockAt blocks j)) (getD-take n ids i noId h) (zero-add i))
 
   case-by : Search blocks 0 (take n ids) → Winner ids n blocks
   case-by (wins i h o f q) =
@@ -144,7 +144,7 @@ parts l n m h =
     e : suc (2 + n) ≡ 3 + n
     e = omega arith
 
-pub opens-form : (id : ℕ) (b : List ℕ) → length b ≡ 256 → opensAs id b ≡ true → Encrypted b (part b 2 203) (textOf b)
+pub opens-form : (id : KeySetId) (b : List ℕ) → length b ≡ 256 → opensAs id b ≡ true → Encrypted b (part b 2 203) (textOf b)
 unfolding opensAs formed
 opens-form id b l e =
     let f = and-eq-true-iff _ _ .0 (and-eq-true-iff _ _ .0 e .0) in

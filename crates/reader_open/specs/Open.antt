@@ -20,8 +20,8 @@ abbrev pub textOf : List ℕ → List ℕ
 textOf b = part b 206 50
 
 -- "STR1 = KeySetID, DivData, RND1, RND1"
-abbrev pub idOf : List ℕ → ℕ
-idOf t = getD t 0 0 * 256 + getD t 1 0
+abbrev pub idOf : List ℕ → KeySetId
+idOf t = record { 0 = getD t 0 0 * 256 + getD t 1 0 }
 
 abbrev pub divOf : List ℕ → List ℕ
 divOf t = part t 2 16
@@ -33,11 +33,11 @@ abbrev pub rnd1Copy : List ℕ → List ℕ
 rnd1Copy t = part t 34 16
 
 -- "50 bytes whose KeySetID is that entry's and whose RND1 copies agree"
-unfoldable pub agrees : ℕ → List ℕ → Bool
-agrees id t = eqb (idOf t) id && same (rnd1Of t) (rnd1Copy t)
+unfoldable pub agrees : KeySetId → List ℕ → Bool
+agrees id t = eqb (idOf t .0) (id .0) && same (rnd1Of t) (rnd1Copy t)
 
 -- whether a block "opens" for an entry id
-unfoldable pub opensAs : ℕ → List ℕ → Bool
+unfoldable pub opensAs : KeySetId → List ℕ → Bool
 opensAs id b = formed b && agrees id (textOf b)
 
 -- "one decrypted 256-byte block for each listed entry, in order": that of entry i
@@ -47,7 +47,7 @@ blockAt blocks i = part blocks (256 * i) 256
 -- "First to open wins": its place, of entries counted from i; past the last where none opens
 abbrev pub firstOpen : List ℕ → ℕ → List KeySetId → ℕ
 firstOpen blocks i [] = i
-firstOpen blocks i (k ∷ ids) = cond (opensAs (k .0) (blockAt blocks i)) i (firstOpen blocks (suc i) ids)
+firstOpen blocks i (k ∷ ids) = cond (opensAs k (blockAt blocks i)) i (firstOpen blocks (suc i) ids)
 
 -- the place among the first n entries
 abbrev pub winner : List KeySetId → ℕ → List ℕ → ℕ

@@ -1,5 +1,8 @@
 //! The reader's Open: the platform's decrypted blocks, one for each listed entry.
+use plaid_types::Answer;
+use plaid_types::Fresh;
 use plaid_types::KeySetId;
+use plaid_types::Reader;
 ghost use mathlib.Core.Path.{_≡_};
 ghost use Prim.Native.Nat.{_+_, _*_, _≤_};
 ghost use lib.ListN.{length};
@@ -41,28 +44,29 @@ fn formed(b: &[u8]) -> bool
     requires { ⌜ length (now b) ≡ 256 ⌝ }
     ensures { λ r. ⌜ r ≡ formed (now (b .entry)) ⌝ }
 {
-    let pads = frame::no_zero(part_of(b, 2, 203), 0);
+    let pads = frame::no_zero(part_of(b, 2, Fresh::PADS), 0);
     let end = octets::both(pads, b[205] == 0);
     octets::both(b[0] == 0, octets::both(b[1] == 2, end))
 }
 
-fn id_of(t: &[u8]) -> u16
+fn id_of(t: &[u8]) -> KeySetId
     requires { ⌜ 2 ≤ length (now t) ⌝ }
     ensures { λ r. ⌜ r ≡ idOf (now (t .entry)) ⌝ }
 {
-    octets::word(t[0], t[1])
+    KeySetId(octets::word(t[0], t[1]))
 }
 
 // Whether the fifty bytes have this KeySetID, and RND1 twice.
-fn agrees(t: &[u8], id: u16) -> bool
+fn agrees(t: &[u8], id: KeySetId) -> bool
     requires { ⌜ length (now t) ≡ 50 ⌝ }
     ensures { λ r. ⌜ r ≡ agrees id (now (t .entry)) ⌝ }
 {
     let twice = octets::equal(octets::block_at(t, 18), octets::block_at(t, 34));
-    octets::both(id_of(t) == id, twice)
+    let k = id_of(t);
+    octets::both(k.0 == id.0, twice)
 }
 
-fn opens(b: &[u8], id: u16) -> bool
+fn opens(b: &[u8], id: KeySetId) -> bool
     requires { ⌜ length (now b) ≡ 256 ⌝ }
     ensures { λ r. ⌜ r ≡ opensAs id (now (b .entry)) ⌝ }
 {
@@ -71,7 +75,7 @@ fn opens(b: &[u8], id: u16) -> bool
 }
 
 // The first that opens, of n; n where none does. Every block is examined.
-fn first(ids: [KeySetId; 16], n: usize, blocks: &[u8]) -> usize
+fn first(ids: [KeySetId; Reader::IDS], n: usize, blocks: &[u8]) -> usize
     requires { ⌜ (n ≤ 16) × (length (now blocks) ≡ 256 * n) ⌝ }
     ensures { λ r. ⌜ r ≡ winner ids n (now (blocks .entry)) ⌝ }
 {
@@ -79,7 +83,7 @@ fn first(ids: [KeySetId; 16], n: usize, blocks: &[u8]) -> usize
     let mut i: usize = 0;
     while i < n {
         let k = ids[i];
-        let hit = opens(part_of(blocks, 256 * i, 256), k.0);
+        let hit = opens(part_of(blocks, Answer::INITIAL * i, Answer::INITIAL), k);
         at = steps::keep(n, at, i, hit);
         i += 1;
     }
@@ -91,7 +95,7 @@ fn handed(id: KeySetId, blocks: &[u8], at: usize) -> Opened
     requires { ⌜ 256 * at + 256 ≤ length (now blocks) ⌝ }
     ensures { λ r. ⌜ r ≡ openedAt id (now (blocks .entry)) at ⌝ }
 {
-    let b = part_of(blocks, 256 * at, 256);
+    let b = part_of(blocks, Answer::INITIAL * at, Answer::INITIAL);
     let t = part_of(b, 206, 50);
     Opened {
         number: 0,
@@ -102,16 +106,16 @@ fn handed(id: KeySetId, blocks: &[u8], at: usize) -> Opened
     }
 }
 
-pub fn open(ids: [KeySetId; 16], count: usize, blocks: &[u8]) -> Opened
+pub fn open(ids: [KeySetId; Reader::IDS], count: usize, blocks: &[u8]) -> Opened
     ensures { λ r. ⌜ r ≡ opened ids count (now (blocks .entry)) ⌝ }
 {
     if count == 0 {
         return declined(14);
     }
-    if 16 < count {
+    if Reader::IDS < count {
         return declined(14);
     }
-    if blocks.len() != 256 * count {
+    if blocks.len() != Answer::INITIAL * count {
         return declined(14);
     }
     let at = first(ids, count, blocks);

@@ -6,6 +6,7 @@ use native.Mathlib.Omega.{arith}
 use borrow.Author.Tests.{lt-ltb, le-ltb}
 use lib.ListN.{length}
 use Rattle.octets.specs.Lists.{over}
+use Rattle.plaid_types.specs.declared.OpModeId.{OpModeId}
 use Rattle.reader_seal.specs.Seal.{keysHashOf, diversifiedBy, sealedBlocks, lcOf, sealedData, finalCommand, sealCommand, sealNumber, sealDeclined, sealedOf, sealOutput}
 use Rattle.reader_seal.specs.Laws.{length-sealCommand}
 use Rattle.reader_seal.specs.declared.Sealed.{Sealed}
@@ -22,7 +23,7 @@ number-0 : (p room : ℕ) → p ≤ 205 → lcOf p + 6 ≤ room → sealNumber p
 unfolding sealNumber
 number-0 p room h l = simp (le-ltb 205 p h, le-ltb room (lcOf p + 6) l)
 
-module _ (fa div rnd1 rnd2 : List ℕ) (mode : ℕ) (payload out : List ℕ) where
+module _ (fa div rnd1 rnd2 : List ℕ) (mode : OpModeId) (payload out : List ℕ) where
   -- what is handed back, and the output
   abbrev Answer : Sealed → List ℕ → Type 0
   Answer r e = (r ≡ sealedOf fa div rnd1 rnd2 mode payload (length out)) × (e ≡ sealOutput fa div rnd1 rnd2 mode payload out)

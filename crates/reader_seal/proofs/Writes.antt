@@ -17,6 +17,7 @@ use Rattle.padding.specs.Method2.{blocksFor, padded, padBuffer}
 use Rattle.padding.specs.Laws.{length-padded}
 use Rattle.cbc.specs.Cbc.{encryptedWhole, zeros}
 use Rattle.cbc.specs.Laws.{encrypted-all}
+use Rattle.plaid_types.specs.declared.OpModeId.{OpModeId}
 use Rattle.reader_seal.specs.Seal.{str2, sealedBlocks, lcOf, sealedData, finalCommand}
 use Rattle.reader_seal.specs.Laws.{length-str2}
 
@@ -36,16 +37,16 @@ pub both-written : (d a b : List ℕ) {e e′ : List ℕ} → length d ≡ 32 �
 both-written d a b ld la lb q r = over-behind d a b la q r ∙ over-all d (a ++ b) (omega (arith, length-append a b))
 
 pub str2-writes :
-    (mode : ℕ) (rnd2 payload hash d : List ℕ) {e₁ e₂ e₃ e₄ : List ℕ}
+    (mode : OpModeId) (rnd2 payload hash d : List ℕ) {e₁ e₂ e₃ e₄ : List ℕ}
     → length rnd2 ≡ 16
-    → e₁ ≡ over d 0 (mode / 256 ∷ mode % 256 ∷ [])
+    → e₁ ≡ over d 0 (mode .0 / 256 ∷ mode .0 % 256 ∷ [])
     → e₂ ≡ over e₁ 2 rnd2
     → e₃ ≡ over e₂ 18 payload
     → e₄ ≡ over e₃ (18 + length payload) hash
     → e₄ ≡ over d 0 (str2 mode rnd2 payload hash)
 unfolding str2
 str2-writes mode rnd2 payload hash d lr q₁ q₂ q₃ q₄ =
-    let number : List ℕ = mode / 256 ∷ mode % 256 ∷ [] in
+    let number : List ℕ = mode .0 / 256 ∷ mode .0 % 256 ∷ [] in
     let w₂ = over-behind d number rnd2 refl q₁ q₂ in
     let w₃ = over-behind d (number ++ rnd2) payload (omega arith) w₂ q₃ in
     over-behind d (number ++ rnd2 ++ payload) hash (omega (arith, length-append rnd2 payload)) w₃ q₄
@@ -61,7 +62,7 @@ padded-over b s t ls lb =
     (over-all d (padded s) (omega (arith, length-padded s, ap blocksFor ls)))
 
 pub data-writes :
-    (key : List ℕ) (mode : ℕ) (rnd2 payload hash b : List ℕ) {w : List (List ℕ)} {e₁ e₂ e₃ : List ℕ}
+    (key : List ℕ) (mode : OpModeId) (rnd2 payload hash b : List ℕ) {w : List (List ℕ)} {e₁ e₂ e₃ : List ℕ}
     → length rnd2 ≡ 16
     → length hash ≡ 16
     → length b ≡ lcOf (length payload)

@@ -11,6 +11,7 @@ use Rattle.sha256.specs.Hash.{sha256, digestBytes}
 use Rattle.padding.specs.Method2.{padded}
 use Rattle.cbc.specs.Lengths.{length-encrypted}
 use Rattle.cbc.specs.Cbc.{zeros}
+use Rattle.plaid_types.specs.declared.OpModeId.{OpModeId}
 use Rattle.reader_seal.specs.Seal.{keysHashOf, diversifiedBy, str2, sealedBlocks, lcOf, sealedData, finalCommand, sealCommand}
 
 length-sha256 : (m : List ℕ) → length (sha256 m) ≡ 32
@@ -21,11 +22,11 @@ pub length-keysHash : (rnd1 rnd2 : List ℕ) → length (keysHashOf rnd1 rnd2) �
 unfolding keysHashOf
 length-keysHash rnd1 rnd2 = length-part (sha256 (rnd1 ++ rnd2)) 0 16 (omega (arith, length-sha256 (rnd1 ++ rnd2)))
 
-pub length-str2 : (mode : ℕ) (rnd2 payload hash : List ℕ) → length rnd2 ≡ 16 → length hash ≡ 16 → length (str2 mode rnd2 payload hash) ≡ 34 + length payload
+pub length-str2 : (mode : OpModeId) (rnd2 payload hash : List ℕ) → length rnd2 ≡ 16 → length hash ≡ 16 → length (str2 mode rnd2 payload hash) ≡ 34 + length payload
 unfolding str2
 length-str2 mode rnd2 payload hash lr lh = omega (arith, length-append rnd2 (payload ++ hash), length-append payload hash)
 
-pub length-sealedData : (key : List ℕ) (mode : ℕ) (rnd2 payload hash : List ℕ) → length (sealedData key mode rnd2 payload hash) ≡ lcOf (length payload)
+pub length-sealedData : (key : List ℕ) (mode : OpModeId) (rnd2 payload hash : List ℕ) → length (sealedData key mode rnd2 payload hash) ≡ lcOf (length payload)
 unfolding sealedData
 length-sealedData key mode rnd2 payload hash = length-encrypted (aes 4 key) (length-aes 4 key) (sealedBlocks (length payload)) zeros (padded (str2 mode rnd2 payload hash))
 
@@ -34,7 +35,7 @@ unfolding finalCommand
 length-command lc d = omega (arith, length-append d (0 ∷ []))
 
 -- the command is Lc + 6 bytes long
-pub length-sealCommand : (fa div rnd1 rnd2 : List ℕ) (mode : ℕ) (payload : List ℕ) → length (sealCommand fa div rnd1 rnd2 mode payload) ≡ lcOf (length payload) + 6
+pub length-sealCommand : (fa div rnd1 rnd2 : List ℕ) (mode : OpModeId) (payload : List ℕ) → length (sealCommand fa div rnd1 rnd2 mode payload) ≡ lcOf (length payload) + 6
 unfolding sealCommand
 length-sealCommand fa div rnd1 rnd2 mode payload =
     length-command (lcOf (length payload)) (sealedData (diversifiedBy fa div) mode rnd2 payload (keysHashOf rnd1 rnd2))

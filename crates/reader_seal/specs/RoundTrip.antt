@@ -19,6 +19,7 @@ use Rattle.padding.specs.Laws.{length-padded, unpadded-padded, padded-bytes}
 use Rattle.padding.specs.declared.Unpadded.the-variants.{Text}
 use Rattle.cbc.specs.Cbc.{decrypted, zeros}
 use Rattle.cbc.specs.Aes.{decrypted-encrypted-aes}
+use Rattle.plaid_types.specs.declared.OpModeId.{OpModeId}
 use Rattle.reader_seal.specs.Seal.{keysHashOf, diversifiedBy, str2, sealedBlocks, lcOf, sealedData, finalCommand, sealCommand}
 use Rattle.reader_seal.specs.Laws.{length-keysHash, length-str2, length-sealedData}
 
@@ -47,18 +48,18 @@ pub keysHash-bytes : (rnd1 rnd2 : List ℕ) → Bytes (keysHashOf rnd1 rnd2)
 unfolding keysHashOf part
 keysHash-bytes rnd1 rnd2 = take-bytes 16 (sha256 (rnd1 ++ rnd2)) (sha256-bytes (rnd1 ++ rnd2))
 
-pub str2-bytes : (mode : ℕ) (rnd2 payload hash : List ℕ) → mode < 65536 → Bytes rnd2 → Bytes payload → Bytes hash → Bytes (str2 mode rnd2 payload hash)
+pub str2-bytes : (mode : OpModeId) (rnd2 payload hash : List ℕ) → mode .0 < 65536 → Bytes rnd2 → Bytes payload → Bytes hash → Bytes (str2 mode rnd2 payload hash)
 unfolding str2
 str2-bytes mode rnd2 payload hash hm hr hp hh =
-    cons-bytes (mode / 256) (mode % 256 ∷ (rnd2 ++ (payload ++ hash))) (omega arith)
-    (cons-bytes (mode % 256) (rnd2 ++ (payload ++ hash)) (omega arith) (append-bytes rnd2 (payload ++ hash) hr (append-bytes payload hash hp hh)))
+    cons-bytes (mode .0 / 256) (mode .0 % 256 ∷ (rnd2 ++ (payload ++ hash))) (omega arith)
+    (cons-bytes (mode .0 % 256) (rnd2 ++ (payload ++ hash)) (omega arith) (append-bytes rnd2 (payload ++ hash) hr (append-bytes payload hash hp hh)))
 
 -- what is deciphered under the diversified key: Lc bytes of the command, behind its first five
-abbrev pub decipheredData : List ℕ → List ℕ → List ℕ → List ℕ → ℕ → List ℕ → List ℕ
+abbrev pub decipheredData : List ℕ → List ℕ → List ℕ → List ℕ → OpModeId → List ℕ → List ℕ
 decipheredData fa div rnd1 rnd2 mode payload =
     decrypted (invAes 4 (diversifiedBy fa div)) zeros (sealedBlocks (length payload)) (part (sealCommand fa div rnd1 rnd2 mode payload) 5 (lcOf (length payload)))
 
-module _ (fa div rnd1 rnd2 : List ℕ) (mode : ℕ) (payload : List ℕ) (hf : Bytes fa) (hd : Block div) (hr : Block rnd2) (hm : mode < 65536) (hp : Bytes payload) where
+module _ (fa div rnd1 rnd2 : List ℕ) (mode : OpModeId) (payload : List ℕ) (hf : Bytes fa) (hd : Block div) (hr : Block rnd2) (hm : mode .0 < 65536) (hp : Bytes payload) where
   text : List ℕ
   text = str2 mode rnd2 payload (keysHashOf rnd1 rnd2)
 

@@ -1,5 +1,6 @@
 //! The reader's Seal: the final command for a mode and a payload.
 use plaid_types::OpModeId;
+use plaid_types::Reader;
 ghost use mathlib.Core.Path.{_≡_};
 ghost use Prim.Native.Nat.{_+_, _≤_};
 ghost use lib.ListN.{length};
@@ -52,11 +53,11 @@ fn diversified(fa_key: [u8; 16], div: [u8; 16]) -> [u8; 16]
 }
 
 // STR2 from the start of a buffer.
-fn write_str2(mode: u16, rnd2: [u8; 16], payload: &[u8], hash: [u8; 16], b: &mut [u8])
+fn write_str2(mode: OpModeId, rnd2: [u8; 16], payload: &[u8], hash: [u8; 16], b: &mut [u8])
     requires { ⌜ 34 + length (now payload) ≤ length (now b) ⌝ }
     ensures { λ _. ⌜ now (b .exit) ≡ over (now (b .entry)) 0 (str2 mode rnd2 (now (payload .entry)) hash) ⌝ }
 {
-    let number = [(mode / 256) as u8, (mode % 256) as u8];
+    let number = [(mode.0 / 256) as u8, (mode.0 % 256) as u8];
     octets::copy_at(b, 0, &number);
     octets::copy_at(b, 2, &rnd2);
     octets::copy_at(b, 18, payload);
@@ -66,7 +67,7 @@ fn write_str2(mode: u16, rnd2: [u8; 16], payload: &[u8], hash: [u8; 16], b: &mut
 // The command's data, in a buffer of its length.
 fn write_data(
     key: [u8; 16],
-    mode: u16,
+    mode: OpModeId,
     rnd2: [u8; 16],
     payload: &[u8],
     hash: [u8; 16],
@@ -84,7 +85,7 @@ fn write_data(
 // The command from the start of the output: the data is made where it stands.
 fn write_command(
     key: [u8; 16],
-    mode: u16,
+    mode: OpModeId,
     rnd2: [u8; 16],
     payload: &[u8],
     hash: [u8; 16],
@@ -111,11 +112,11 @@ pub fn seal(
     payload: &[u8],
     out: &mut [u8],
 ) -> Sealed
-    ensures { λ r. ⌜ r ≡ sealedOf «fa_key» «div_data» rnd1 rnd2 (mode .0) (now (payload .entry)) (length (now (out .entry))) ⌝ }
-    ensures { λ _. ⌜ now (out .exit) ≡ sealOutput «fa_key» «div_data» rnd1 rnd2 (mode .0) (now (payload .entry)) (now (out .entry)) ⌝ }
+    ensures { λ r. ⌜ r ≡ sealedOf «fa_key» «div_data» rnd1 rnd2 mode (now (payload .entry)) (length (now (out .entry))) ⌝ }
+    ensures { λ _. ⌜ now (out .exit) ≡ sealOutput «fa_key» «div_data» rnd1 rnd2 mode (now (payload .entry)) (now (out .entry)) ⌝ }
 {
     let p = payload.len();
-    if 205 < p {
+    if Reader::PAYLOAD < p {
         return declined(16);
     }
     let lc = 16 * padding::blocks_for(34 + p);
@@ -124,7 +125,7 @@ pub fn seal(
     }
     let hash = keys_hash(rnd1, rnd2);
     let key = diversified(fa_key, div_data);
-    write_command(key, mode.0, rnd2, payload, hash, lc, out);
+    write_command(key, mode, rnd2, payload, hash, lc, out);
     Sealed {
         number: 0,
         length: lc + 6,

@@ -25,7 +25,7 @@ use Rattle.session.specs.Parts.{key-held}
 -- a slot of the card holds the session's KeySetID
 pub record HeldIn (c : Card) (s : Session) : Type 0 where
   pub slot : ℕ
-  pub holds : Holds (c .sets) slot (s .id .0)
+  pub holds : Holds (c .sets) slot (s .id)
 
 -- a session that a card can have: RND1 has sixteen bytes, and where it is open its KeySetID is held
 pub record Lawful (c : Card) (s : Session) : Type 0 where
@@ -72,5 +72,5 @@ after-lawful c g s l (x ∷ xs) = after-lawful c g (nextSession c s x) (next-law
 pub key-of-session : (c : Card) → Stocked c → c .session .opened ≡ true → (h : HeldIn c (c .session)) → faKeyOf c ≡ setAt c (h .slot) .«fa_key»
 unfolding faKeyOf
 key-of-session c g o h =
-    ap (λ (t : Bool). cond t (keyOf (c .sets) (c .session .id .0) (c .«shill_key»)) (c .«shill_key»)) o
-    ∙ key-held c g (c .session .id .0) (h .slot) (h .holds) (c .«shill_key»)
+    ap (λ (t : Bool). cond t (keyOf (c .sets) (c .session .id) (c .«shill_key»)) (c .«shill_key»)) o
+    ∙ key-held c g (c .session .id) (h .slot) (h .holds) (c .«shill_key»)

@@ -13,6 +13,7 @@ use Rattle.octets.specs.Lists.{part, length-part}
 use Rattle.octets.specs.ByteLists.{part-bytes}
 use Rattle.octets.specs.Same.{split-and, same-true}
 use Rattle.frame.specs.Declines.{padBytes, noZero}
+use Rattle.plaid_types.specs.declared.KeySetId.{KeySetId}
 use Rattle.initial.specs.Initial.{str1, blockOf}
 use Rattle.reader_open.specs.Open.{formed, textOf, idOf, divOf, rnd1Of, rnd1Copy, agrees, opensAs}
 use Rattle.reader_open.specs.Laws.{Encrypted, opens-form}
@@ -24,24 +25,24 @@ all-parts : (l : List ℕ) (n m k : ℕ) → length l ≡ 2 + (n + (m + k)) →
 all-parts l n m k h = sym (take-all (2 + (n + (m + k))) l (omega arith)) ∙ front-parts l n m k (omega arith)
 
 -- a text of 50 bytes "whose KeySetID is that entry's and whose RND1 copies agree" is STR1
-text-str1 : (id : ℕ) (t : List ℕ) → length t ≡ 50 → Bytes t → agrees id t ≡ true → t ≡ str1 id (divOf t) (rnd1Of t)
+text-str1 : (id : KeySetId) (t : List ℕ) → length t ≡ 50 → Bytes t → agrees id t ≡ true → t ≡ str1 id (divOf t) (rnd1Of t)
 unfolding agrees str1
 text-str1 id t l b e =
     let a = split-and _ _ e in
-    let i : idOf t ≡ id = eqb-true (idOf t) id (a .0) in
+    let i : idOf t .0 ≡ id .0 = eqb-true (idOf t .0) (id .0) (a .0) in
     let c : rnd1Of t ≡ rnd1Copy t = same-true (rnd1Of t) (rnd1Copy t) (a .1) in
-    let high : getD t 0 0 ≡ id / 256 = omega (arith, b 1) in
-    let low : getD t 1 0 ≡ id % 256 = omega (arith, b 1) in
+    let high : getD t 0 0 ≡ id .0 / 256 = omega (arith, b 1) in
+    let low : getD t 1 0 ≡ id .0 % 256 = omega (arith, b 1) in
     all-parts t 16 16 16 l
     ∙ ap₂ (λ (x y : ℕ). x ∷ y ∷ (divOf t ++ (rnd1Of t ++ rnd1Copy t))) high low
-    ∙ ap (λ (r : List ℕ). id / 256 ∷ id % 256 ∷ (divOf t ++ (rnd1Of t ++ r))) (sym c)
+    ∙ ap (λ (r : List ℕ). id .0 / 256 ∷ id .0 % 256 ∷ (divOf t ++ (rnd1Of t ++ r))) (sym c)
 
 -- fresh bytes that give a card this block: RND1, 34 bytes f that an accepted command does not use, and the block's pad bytes
 abbrev pub freshOf : List ℕ → List ℕ → List ℕ
 freshOf b f = rnd1Of (textOf b) ++ (f ++ part b 2 203)
 
 -- with these a card that accepts the KeySetID, and has this DivData, answers with the block
-pub record CardsBlock (id : ℕ) (b f : List ℕ) : Type 0 where
+pub record CardsBlock (id : KeySetId) (b f : List ℕ) : Type 0 where
   -- neither "8 fresh bytes not 253" nor "9 a zero pad byte"
   pub fresh-long : length (freshOf b f) ≡ 253
   pub pads-nonzero : noZero (padBytes (freshOf b f)) ≡ true
@@ -52,7 +53,7 @@ pub record CardsBlock (id : ℕ) (b f : List ℕ) : Type 0 where
   -- "The output block is 00 02, the pad bytes, 00, those 50 bytes", and these are STR1
   pub is-block : b ≡ blockOf (freshOf b f) (str1 id (divOf (textOf b)) (rnd1Of (textOf b)))
 
-module _ (id : ℕ) (b f : List ℕ) (l : length b ≡ 256) (hb : Bytes b) (lf : length f ≡ 34) (e : opensAs id b ≡ true) where
+module _ (id : KeySetId) (b f : List ℕ) (l : length b ≡ 256) (hb : Bytes b) (lf : length f ≡ 34) (e : opensAs id b ≡ true) where
   form : Encrypted b (part b 2 203) (textOf b)
   form = opens-form id b l e
 

@@ -10,7 +10,7 @@ use lib.ListN.{length, getD, length-append}
 use borrow.Author.Tests.{eqb-true, eq-eqb, ltb-true, ltb-false}
 use Rattle.octets.specs.Lists.{part}
 use Rattle.octets.specs.Same.{same-of, split-and}
-use Rattle.steps.specs.Made.{matched}
+use Rattle.steps.specs.Made.{setMatched}
 use Rattle.frame.specs.Frame.{frameOf, statusOf}
 use Rattle.frame.specs.Declines.{padBytes, noZero, verdict}
 use Rattle.frame.specs.declared.Verdict.{Verdict}
@@ -64,7 +64,7 @@ module _ (c : Card) (cmd fresh : List ℕ) (room : ℕ) (right : statusOf (lengt
       (goes-on z)
 
 -- the card's block opens for its KeySetID
-module _ (fresh : List ℕ) (k : ℕ) (div rnd1 : List ℕ) (lf : length (padBytes fresh) ≡ 203) (nz : noZero (padBytes fresh) ≡ true) (ld : length div ≡ 16) (lr : length rnd1 ≡ 16) where
+module _ (fresh : List ℕ) (k : KeySetId) (div rnd1 : List ℕ) (lf : length (padBytes fresh) ≡ 203) (nz : noZero (padBytes fresh) ≡ true) (ld : length div ≡ 16) (lr : length rnd1 ≡ 16) where
   t : List ℕ
   t = str1 k div rnd1
 
@@ -82,25 +82,25 @@ module _ (fresh : List ℕ) (k : ℕ) (div rnd1 : List ℕ) (lf : length (padByt
 
   pub text-div : divOf (str1 k div rnd1) ≡ div
   unfolding str1
-  text-div = part-after (k / 256 ∷ k % 256 ∷ []) div (rnd1 ++ rnd1) 2 16 refl ld
+  text-div = part-after (k .0 / 256 ∷ k .0 % 256 ∷ []) div (rnd1 ++ rnd1) 2 16 refl ld
 
   pub text-rnd1 : rnd1Of (str1 k div rnd1) ≡ rnd1
   unfolding str1
-  text-rnd1 = ap (λ (l : List ℕ). part l 18 16) (ap (λ (l : List ℕ). k / 256 ∷ k % 256 ∷ l) refl) ∙ part-after (k / 256 ∷ k % 256 ∷ div) rnd1 rnd1 18 16 (omega arith) lr
+  text-rnd1 = ap (λ (l : List ℕ). part l 18 16) (ap (λ (l : List ℕ). k .0 / 256 ∷ k .0 % 256 ∷ l) refl) ∙ part-after (k .0 / 256 ∷ k .0 % 256 ∷ div) rnd1 rnd1 18 16 (omega arith) lr
 
   text-copy : rnd1Copy (str1 k div rnd1) ≡ rnd1
   unfolding str1
   text-copy =
-      ap (λ (l : List ℕ). part (k / 256 ∷ k % 256 ∷ l) 34 16) (sym (append-assoc div rnd1 rnd1))
-      ∙ part-last (k / 256 ∷ k % 256 ∷ (div ++ rnd1)) rnd1 34 16 (omega (arith, length-append div rnd1)) lr
+      ap (λ (l : List ℕ). part (k .0 / 256 ∷ k .0 % 256 ∷ l) 34 16) (sym (append-assoc div rnd1 rnd1))
+      ∙ part-last (k .0 / 256 ∷ k .0 % 256 ∷ (div ++ rnd1)) rnd1 34 16 (omega (arith, length-append div rnd1)) lr
 
-  text-id : idOf (str1 k div rnd1) ≡ k
+  text-id : idOf (str1 k div rnd1) .0 ≡ k .0
   unfolding str1
   text-id = omega arith
 
   text-agrees : agrees k (str1 k div rnd1) ≡ true
   unfolding agrees
-  text-agrees = rw (eq-eqb (idOf (str1 k div rnd1)) k text-id) (same-of (rnd1Of (str1 k div rnd1)) (rnd1Copy (str1 k div rnd1)) (text-rnd1 ∙ sym text-copy))
+  text-agrees = rw (eq-eqb (idOf (str1 k div rnd1) .0) (k .0) text-id) (same-of (rnd1Of (str1 k div rnd1)) (rnd1Copy (str1 k div rnd1)) (text-rnd1 ∙ sym text-copy))
 
   pub block-opens : opensAs k (blockOf fresh (str1 k div rnd1)) ≡ true
   unfolding opensAs t
@@ -118,24 +118,27 @@ module _ (ids : List KeySetId) (n : ℕ) (blocks : List ℕ) (j : ℕ) (h : j < 
   winner-is (lost f q) = absurd (true≢false (sym o ∙ f j h))
 
 -- the FAKey found by KeySetID is that of the slot that holds it
-key-at : (ss : List KeySetSlot) (k : ℕ) (other : List ℕ) (n : ℕ) → n < length ss → matched true k (getD ss n noSet .held) (getD ss n noSet .id .0) ≡ true →
-    ((m : ℕ) → m < n → matched true k (getD ss m noSet .held) (getD ss m noSet .id .0) ≡ false) → keyOf ss k other ≡ getD ss n noSet .«fa_key»
+key-at : (ss : List KeySetSlot) (k : KeySetId) (other : List ℕ) (n : ℕ) → n < length ss → setMatched true k (getD ss n noSet .held) (getD ss n noSet .id) ≡ true →
+    ((m : ℕ) → m < n → setMatched true k (getD ss m noSet .held) (getD ss m noSet .id) ≡ false) → keyOf ss k other ≡ getD ss n noSet .«fa_key»
 unfolding keyOf
 key-at [] k other n h e f = absurd (not-suc-le-zero h)
 key-at (s ∷ ss) k other zero h e f = rw e
 key-at (s ∷ ss) k other (suc n) h e f = rw (f 0 (omega arith)) (key-at ss k other n (le-of-suc-le-suc h) e (λ m l. f (suc m) (omega arith)))
 
-module _ (c : Card) (g : Stocked c) (k n : ℕ) (w : Holds (c .sets) n k) where
-  others-by : (m : ℕ) → m < n → (t : Bool) → matched true k (setAt c m .held) (setAt c m .id .0) ≡ t → t ≡ false
+module _ (c : Card) (g : Stocked c) (k : KeySetId) (n : ℕ) (w : Holds (c .sets) n k) where
+  number : {a b : KeySetId} → a ≡ b → a .0 ≡ b .0
+  number = ap (λ (x : KeySetId). x .0)
+
+  others-by : (m : ℕ) → m < n → (t : Bool) → setMatched true k (setAt c m .held) (setAt c m .id) ≡ t → t ≡ false
   others-by m h false e = refl
   others-by m h true e =
-      let s = split-and (setAt c m .held) (eqb k (setAt c m .id .0)) e in
-      absurd (g .set-once m n h (s .0) (w .kept) (sym (eqb-true k (setAt c m .id .0) (s .1)) ∙ sym (w .id)))
+      let s = split-and (setAt c m .held) (eqb (k .0) (setAt c m .id .0)) e in
+      absurd (g .set-once m n h (s .0) (w .kept) (sym (eqb-true (k .0) (setAt c m .id .0) (s .1)) ∙ sym (number (w .id))))
 
-  at-slot : matched true k (setAt c n .held) (setAt c n .id .0) ≡ true
-  at-slot = rw (w .kept, eq-eqb k (setAt c n .id .0) (sym (w .id)))
+  at-slot : setMatched true k (setAt c n .held) (setAt c n .id) ≡ true
+  at-slot = rw (w .kept, eq-eqb (k .0) (setAt c n .id .0) (sym (number (w .id))))
 
   pub key-held : (other : List ℕ) → keyOf (c .sets) k other ≡ getD (c .sets) n noSet .«fa_key»
   key-held other =
       key-at (c .sets) k other n (omega (arith, w .below, g .sets-long)) at-slot
-      (λ m h. others-by m h (matched true k (setAt c m .held) (setAt c m .id .0)) refl)
+      (λ m h. others-by m h (setMatched true k (setAt c m .held) (setAt c m .id)) refl)

@@ -5,7 +5,7 @@ use mathlib.Core.List.{List, map}
 use Prim.Native.Nat.{ℕ, zero, suc, _*_, _<_, _≤_}
 use native.Mathlib.Omega.{arith}
 use lib.Dec.{eqb, ltb}
-use lib.ListN.{length, getD, length-map, List·getD-map}
+use lib.ListN.{length, getD, take, length-map}
 use lib.Seq.{getD-take, length-take-le}
 use borrow.Author.Tests.{eqb-true, ltb-true, ltb-false, eq-eqb, ne-eqb, le-ltb}
 use Rattle.octets.specs.Lists.{part, length-part}
@@ -17,15 +17,16 @@ use Rattle.frame.specs.Laws.{Passed, passed, length-pads}
 use Rattle.list.specs.Encoding.{encoded}
 use Rattle.plaid_types.specs.Cards.{noSet, withSession, Reply}
 use Rattle.plaid_types.specs.declared.KeySetId.{KeySetId}
+use Rattle.plaid_types.specs.declared.OpModeId.{OpModeId}
 use Rattle.plaid_types.specs.declared.KeySetSlot.{KeySetSlot}
 use Rattle.plaid_types.specs.declared.Session.{Session}
 use Rattle.plaid_types.specs.declared.Card.{Card}
 use Rattle.load.specs.Load.{some, repeated}
-use Rattle.load.specs.Laws.{GoodRecord, Stocked, stocked-session}
+use Rattle.load.specs.Laws.{map-take, GoodRecord, Stocked, stocked-session}
 use Rattle.initial.specs.Initial.{slotOf, str1, blockOf, initialReply}
 use Rattle.final_command.specs.Final.{faKeyOf, keyOf, firstMode, finalReply}
 use Rattle.card.specs.Command.{replyTo, outcome, answerBytes, verdictOn}
-use Rattle.reader_list.specs.List.{given, listCommand, listNumber}
+use Rattle.reader_list.specs.List.{numbers, given, listCommand, listNumber}
 use Rattle.reader_list.specs.Laws.{Taken, command-taken}
 use Rattle.reader_open.specs.Open.{noId, opened, openedAt, openNumber, winner, blockAt, textOf, divOf, rnd1Of}
 use Rattle.reader_open.specs.Laws.{opensEntry, winner-case}
@@ -89,8 +90,11 @@ counted-blocks ids n blocks a b f = by (eqb (length blocks) (256 * n)) refl
         absurd (f (simp (x, y, e)))
 
 -- a session between a card c and a reader
-module _ (c : Card) (ids : List KeySetId) (n : ℕ) (fresh₁ : List ℕ) (room₁ : ℕ) (blocks fa r2 payload : List ℕ) (mode : ℕ) (fresh₂ : List ℕ) (room₂ : ℕ) (work : List ℕ) where
-  -- the KeySetIDs listed, List's command, and the card's answer to it
+module _ (c : Card) (ids : List KeySetId) (n : ℕ) (fresh₁ : List ℕ) (room₁ : ℕ) (blocks fa r2 payload : List ℕ) (mode : OpModeId) (fresh₂ : List ℕ) (room₂ : ℕ) (work : List ℕ) where
+  -- the KeySetIDs listed, their numbers in List's command, and the card's answer to it
+  abbrev pub entries : List KeySetId
+  entries = take n ids
+
   abbrev pub listed : List ℕ
   listed = given ids n
 
@@ -103,7 +107,7 @@ module _ (c : Card) (ids : List KeySetId) (n : ℕ) (fresh₁ : List ℕ) (room�
 
   -- the first listed set that the card holds: its place in the list, and its slot
   abbrev pub place : ℕ
-  place = firstHeld c listed
+  place = firstHeld c entries
 
   abbrev pub slot : KeySetSlot
   slot = getD (c .sets) (slotOf c (encoded listed)) noSet
@@ -132,7 +136,7 @@ module _ (c : Card) (ids : List KeySetId) (n : ℕ) (fresh₁ : List ℕ) (room�
     pub second-call : outcome card₁ command₂ fresh₂ room₂ .answer .number ≡ 0
     pub not-19 : acceptedOf hash (open₁ .«div_data») answer₂ (length work) .number ≡ 19 → ⊥
     -- "the first listed set that the card holds has equal FAKey at both ends"
-    pub some-held : some (held c) listed ≡ true
+    pub some-held : some (held c) entries ≡ true
     pub same-key : slot .«fa_key» ≡ fa
     -- "platform decryption undoes encryption for it"
     pub decrypted : blockAt blocks place ≡ answer₁
@@ -143,7 +147,7 @@ module _ (c : Card) (ids : List KeySetId) (n : ℕ) (fresh₁ : List ℕ) (room�
     -- what the types of the inputs say: an array of sixteen KeySetIDs, numbers of two bytes, and bytes
     pub ids-long : length ids ≡ 16
     pub ids-small : (i : ℕ) → getD listed i 0 < 65536
-    pub mode-small : mode < 65536
+    pub mode-small : mode .0 < 65536
     pub div-bytes : Bytes (c .«div_data»)
     pub area-bytes : Bytes (c .area)
     pub key-bytes : Bytes fa
@@ -169,8 +173,14 @@ module _ (c : Card) (ids : List KeySetId) (n : ℕ) (fresh₁ : List ℕ) (room�
     past : Passed (length (listCommand listed)) (frameOf (listCommand listed)) fresh₁ room₁
     past = passed (length (listCommand listed)) (frameOf (listCommand listed)) fresh₁ room₁ (eqb-true (verdictOn (listCommand listed) fresh₁ room₁ .status) 0x9000 ok₁)
 
-    answers : Answers c fresh₁ (getD listed place 0) slot (initialReply c (encoded listed) fresh₁)
-    answers = list-answered c g listed fresh₁ (omega (arith, listed-long, range .1)) (k .some-held)
+    entries-long : length entries ≡ n
+    entries-long = length-take-le n ids (omega (arith, k .ids-long, range .1))
+
+    numbers-are : numbers entries ≡ listed
+    numbers-are = sym (map-take (λ (x : KeySetId). x .0) n ids)
+
+    answers : Answers c fresh₁ (getD entries place noId) slot (initialReply c (encoded listed) fresh₁)
+    answers = rw numbers-are at (list-answered c g entries fresh₁ (omega (arith, entries-long, range .1)) (k .some-held))
 
     reply₁ : replyTo c (listCommand listed) fresh₁ ≡ initialReply c (encoded listed) fresh₁
     reply₁ = reply-initial c (listCommand listed) fresh₁ (encoded listed) (taken .ins) (taken .list)
@@ -179,7 +189,7 @@ module _ (c : Card) (ids : List KeySetId) (n : ℕ) (fresh₁ : List ℕ) (room�
     rnd1 = part fresh₁ 0 16
 
     block : List ℕ
-    block = blockOf fresh₁ (str1 (getD listed place 0) (c .«div_data») (part fresh₁ 0 16))
+    block = blockOf fresh₁ (str1 (getD entries place noId) (c .«div_data») (part fresh₁ 0 16))
 
     block-is : blockAt blocks place ≡ block
     unfolding block
@@ -192,45 +202,45 @@ module _ (c : Card) (ids : List KeySetId) (n : ℕ) (fresh₁ : List ℕ) (room�
     opens-at : opensEntry ids blocks place ≡ true
     unfolding block
     opens-at =
-        let e : getD ids place noId .0 ≡ getD listed place 0 = listed-at in
+        let e : getD ids place noId ≡ getD entries place noId = listed-at in
         rw (block-is, e)
-        (block-opens fresh₁ (getD listed place 0) (c .«div_data») (part fresh₁ 0 16) pads (past .pad-nonzero) (g .div-long) (length-part fresh₁ 0 16 (omega (arith, past .fresh-long))))
+        (block-opens fresh₁ (getD entries place noId) (c .«div_data») (part fresh₁ 0 16) pads (past .pad-nonzero) (g .div-long) (length-part fresh₁ 0 16 (omega (arith, past .fresh-long))))
       where
         pads : length (padBytes fresh₁) ≡ 203
         pads = length-pads fresh₁ (past .fresh-long)
 
-        listed-at : getD ids place noId .0 ≡ getD listed place 0
-        listed-at = sym (getD-take n (map (λ (x : KeySetId). x .0) ids) place 0 (omega (arith, first-held c listed (k .some-held) .within, listed-long)) ∙ List·getD-map (λ (x : KeySetId). x .0) ids place noId)
+        listed-at : getD ids place noId ≡ getD entries place noId
+        listed-at = sym (getD-take n ids place noId (omega (arith, first-held c entries (k .some-held) .within, entries-long)))
 
     wins : winner ids n blocks ≡ place
     wins =
-        winner-is ids n blocks place (omega (arith, first-held c listed (k .some-held) .within, listed-long)) opens-at (k .no-earlier)
+        winner-is ids n blocks place (omega (arith, first-held c entries (k .some-held) .within, entries-long)) opens-at (k .no-earlier)
         (winner-case ids n blocks (omega (arith, k .ids-long, range .1)))
 
     -- Open hands back the first listed set that the card holds
     open-is : open₁ ≡ openedAt (getD ids place noId) blocks place
-    open-is = opened-at ids n blocks place (range .0) (range .1) (counted-blocks ids n blocks (range .0) (range .1) (k .not-14)) wins (omega (arith, first-held c listed (k .some-held) .within, listed-long))
+    open-is = opened-at ids n blocks place (range .0) (range .1) (counted-blocks ids n blocks (range .0) (range .1) (k .not-14)) wins (omega (arith, first-held c entries (k .some-held) .within, entries-long))
 
     lr : length (part fresh₁ 0 16) ≡ 16
     lr = length-part fresh₁ 0 16 (omega (arith, past .fresh-long))
 
-    text-is : textOf (blockAt blocks place) ≡ str1 (getD listed place 0) (c .«div_data») (part fresh₁ 0 16)
+    text-is : textOf (blockAt blocks place) ≡ str1 (getD entries place noId) (c .«div_data») (part fresh₁ 0 16)
     unfolding block
     text-is =
         ap textOf block-is
-        ∙ block-text fresh₁ (getD listed place 0) (c .«div_data») (part fresh₁ 0 16) (length-pads fresh₁ (past .fresh-long)) (past .pad-nonzero) (g .div-long) lr
+        ∙ block-text fresh₁ (getD entries place noId) (c .«div_data») (part fresh₁ 0 16) (length-pads fresh₁ (past .fresh-long)) (past .pad-nonzero) (g .div-long) lr
 
     pub open-div : open₁ .«div_data» ≡ c .«div_data»
     open-div =
         ap (λ (x : Opened). x .«div_data») open-is
         ∙ ap divOf text-is
-        ∙ text-div fresh₁ (getD listed place 0) (c .«div_data») (part fresh₁ 0 16) (length-pads fresh₁ (past .fresh-long)) (past .pad-nonzero) (g .div-long) lr
+        ∙ text-div fresh₁ (getD entries place noId) (c .«div_data») (part fresh₁ 0 16) (length-pads fresh₁ (past .fresh-long)) (past .pad-nonzero) (g .div-long) lr
 
     pub open-rnd1 : open₁ .rnd1 ≡ part fresh₁ 0 16
     open-rnd1 =
         ap (λ (x : Opened). x .rnd1) open-is
         ∙ ap rnd1Of text-is
-        ∙ text-rnd1 fresh₁ (getD listed place 0) (c .«div_data») (part fresh₁ 0 16) (length-pads fresh₁ (past .fresh-long)) (past .pad-nonzero) (g .div-long) lr
+        ∙ text-rnd1 fresh₁ (getD entries place noId) (c .«div_data») (part fresh₁ 0 16) (length-pads fresh₁ (past .fresh-long)) (past .pad-nonzero) (g .div-long) lr
 
     -- the card after the initial command: its session is that of the set, with RND1
     s₁ : Session
@@ -245,9 +255,9 @@ module _ (c : Card) (ids : List KeySetId) (n : ℕ) (fresh₁ : List ℕ) (room�
     key-is : faKeyOf (withSession c s₁) ≡ fa
     unfolding faKeyOf s₁
     key-is =
-        let w = list-slot c g listed (omega (arith, listed-long, range .1)) (k .some-held) in
-        ap (λ (i : ℕ). keyOf (c .sets) i (c .«shill_key»)) (answers .id)
-        ∙ key-held c g (getD listed place 0) (slotOf c (encoded listed)) w (c .«shill_key»)
+        let w = rw numbers-are at (list-slot c g entries (omega (arith, entries-long, range .1)) (k .some-held)) in
+        ap (λ (i : KeySetId). keyOf (c .sets) i (c .«shill_key»)) (answers .id)
+        ∙ key-held c g (getD entries place noId) (slotOf c (encoded listed)) w (c .«shill_key»)
         ∙ k .same-key
 
     shared : SharedSession (withSession c s₁) (slot .id) fa (part fresh₁ 0 16) r2 mode payload

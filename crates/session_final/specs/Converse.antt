@@ -22,6 +22,7 @@ use Rattle.cbc.specs.Aes.{aes-cipher, encrypted-decrypted-aes}
 use Rattle.cbc.specs.Lengths.{length-decrypted}
 use Rattle.frame.specs.Frame.{frameOf, insOf, finalIns, statusOf, dataOf}
 use Rattle.frame.specs.Laws.{Faultless, faultless, frame-byte, frame-last, data-long}
+use Rattle.plaid_types.specs.declared.OpModeId.{OpModeId}
 use Rattle.plaid_types.specs.declared.Session.{Session}
 use Rattle.plaid_types.specs.declared.Card.{Card}
 use Rattle.load.specs.Laws.{Stocked}
@@ -59,7 +60,7 @@ unfolding unpadded
 unpads s e = rw e
 
 -- what the deciphered text has: "OpModeID, RND2, payload .., KeysHash"; the payload stands between RND2 and KeysHash
-abbrev pub modeIn : Card → List ℕ → ℕ
+abbrev pub modeIn : Card → List ℕ → OpModeId
 modeIn c d = opMode (textOf c d)
 
 abbrev pub rnd2In : Card → List ℕ → List ℕ
@@ -141,11 +142,11 @@ module _ (c : Card) (d : List ℕ) (g : Stocked c) (hf : Bytes (faKeyOf c)) (hv 
   enough : 34 < length (decipheredText c d)
   enough = omega (arith, size-less, length-plain, six .long)
 
-  high-is : modeIn c d / 256 ≡ getD (decipheredText c d) 0 0
+  high-is : modeIn c d .0 / 256 ≡ getD (decipheredText c d) 0 0
   unfolding opMode
   high-is = omega (arith, enough, byte-at 0 (omega (arith, enough)), byte-at 1 (omega (arith, enough)), plain-bytes 1)
 
-  low-is : modeIn c d % 256 ≡ getD (decipheredText c d) 1 0
+  low-is : modeIn c d .0 % 256 ≡ getD (decipheredText c d) 1 0
   unfolding opMode
   low-is = omega (arith, enough, byte-at 0 (omega (arith, enough)), byte-at 1 (omega (arith, enough)), plain-bytes 1)
 

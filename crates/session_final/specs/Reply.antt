@@ -72,7 +72,7 @@ reply-by c d fresh key text g p q l =
 pub record AcceptedReply (c : Card) (d fresh : List ℕ) : Type 0 where
   -- "the mode is held": the slot is, and it is that of the mode which bytes 0 and 1 of the text name
   pub is-held : namedSlot c d .held ≡ true
-  pub is-mode : namedSlot c d .id .0 ≡ opMode (textOf c d)
+  pub is-mode : namedSlot c d .id ≡ opMode (textOf c d)
   -- "record": as many bytes of the record area as the load said
   pub record-long : length (namedRecord c d) ≡ namedSlot c d .len
   -- "encipher B blocks": record, DivData and padding are B blocks, and nothing else stands there

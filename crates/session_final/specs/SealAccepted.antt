@@ -11,6 +11,7 @@ use Rattle.octets.specs.Same.{same-of}
 use Rattle.padding.specs.Method2.{padded, end, rightly}
 use Rattle.padding.specs.Laws.{seen, unpadded-padded, rightly-seen}
 use Rattle.plaid_types.specs.declared.KeySetId.{KeySetId}
+use Rattle.plaid_types.specs.declared.OpModeId.{OpModeId}
 use Rattle.plaid_types.specs.declared.Session.{Session}
 use Rattle.plaid_types.specs.declared.Card.{Card}
 use Rattle.final_command.specs.Final.{keysHash, firstMode, modeOf, decipheredText, accepting, acceptsFinal}
@@ -34,7 +35,7 @@ unfolding accepting
 accepting-is opened lc s hash mode a b c d e f =
     simp (a, eq-eqb (lc % 16) 0 b, c, le-leb 34 (end s - 1) d, same-of (part s (end s - 1 - 16) 16) hash e, lt-ltb mode 16 f)
 
-module _ (c : Card) (i : KeySetId) (fa r1 r2 : List ℕ) (mode : ℕ) (payload : List ℕ) (k : SharedSession c i fa r1 r2 mode payload) where
+module _ (c : Card) (i : KeySetId) (fa r1 r2 : List ℕ) (mode : OpModeId) (payload : List ℕ) (k : SharedSession c i fa r1 r2 mode payload) where
   -- the deciphered text is rightly padded
   pub seal-rightly : rightly (decipheredText c (sealed c fa r1 r2 mode payload)) ≡ true
   seal-rightly = ap rightly (seal-deciphered c i fa r1 r2 mode payload k) ∙ rightly-padded (sealedText r1 r2 mode payload)
@@ -56,7 +57,7 @@ module _ (c : Card) (i : KeySetId) (fa r1 r2 : List ℕ) (mode : ℕ) (payload :
   -- the slot found is the first that holds Seal's mode
   pub seal-slot : modeOf c (sealed c fa r1 r2 mode payload) ≡ firstMode 0 mode (c .modes)
   unfolding modeOf
-  seal-slot = ap (λ (v : ℕ). firstMode 0 v (c .modes)) (seal-mode c i fa r1 r2 mode payload k)
+  seal-slot = ap (λ (v : OpModeId). firstMode 0 v (c .modes)) (seal-mode c i fa r1 r2 mode payload k)
 
   opened-so : c .session .opened ≡ true
   opened-so = ap (λ (s : Session). s .opened) (k .in-session)

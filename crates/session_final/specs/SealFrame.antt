@@ -11,6 +11,7 @@ use lib.Seq.{take-at, getD-at}
 use Rattle.octets.specs.Lists.{part}
 use Rattle.frame.specs.Frame.{frameOf, claOf, insOf, p1Of, p2Of, finalIns, whole, statusOf, dataOf}
 use Rattle.frame.specs.Laws.{frame-byte, frame-last, whole-is}
+use Rattle.plaid_types.specs.declared.OpModeId.{OpModeId}
 use Rattle.reader_seal.specs.Seal.{keysHashOf, diversifiedBy, sealedBlocks, lcOf, sealedData, finalCommand, sealCommand}
 use Rattle.reader_seal.specs.Laws.{length-sealedData, length-command, lc-least}
 
@@ -47,7 +48,7 @@ module _ (lc : ℕ) (d : List ℕ) (e : length d ≡ lc) where
   unfolding dataOf part finalCommand
   framed-data = take-at d (0 ∷ []) (length (finalCommand lc d) - 6) (omega (arith, length-command lc d))
 
-module _ (fa div rnd1 rnd2 : List ℕ) (mode : ℕ) (payload : List ℕ) where
+module _ (fa div rnd1 rnd2 : List ℕ) (mode : OpModeId) (payload : List ℕ) where
   -- a card finds no fault in the frame of Seal's command
   pub seal-status : statusOf (length (sealCommand fa div rnd1 rnd2 mode payload)) (frameOf (sealCommand fa div rnd1 rnd2 mode payload)) ≡ 0x9000
   unfolding sealCommand

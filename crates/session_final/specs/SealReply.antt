@@ -8,6 +8,7 @@ use Rattle.aes.specs.Aes.{aes}
 use Rattle.padding.specs.Method2.{blocksFor, padded}
 use Rattle.cbc.specs.Cbc.{encrypted, zeros}
 use Rattle.plaid_types.specs.declared.KeySetId.{KeySetId}
+use Rattle.plaid_types.specs.declared.OpModeId.{OpModeId}
 use Rattle.plaid_types.specs.declared.ModeSlot.{ModeSlot}
 use Rattle.plaid_types.specs.declared.Card.{Card}
 use Rattle.load.specs.Laws.{modeAt, GoodRecord, Stocked}
@@ -19,13 +20,13 @@ use Rattle.session_final.specs.Accepts.{Found, first-found}
 use Rattle.session_final.specs.Reply.{recordAt, namedRecord, length-record, bytes-by, accepted-reply}
 
 -- the record of the mode that Seal took
-abbrev pub sealedSlot : Card → ℕ → ModeSlot
+abbrev pub sealedSlot : Card → OpModeId → ModeSlot
 sealedSlot c mode = modeAt c (firstMode 0 mode (c .modes))
 
-abbrev pub sealedRecord : Card → ℕ → List ℕ
+abbrev pub sealedRecord : Card → OpModeId → List ℕ
 sealedRecord c mode = recordAt c (sealedSlot c mode)
 
-module _ (c : Card) (mode : ℕ) (g : Stocked c) (h : firstMode 0 mode (c .modes) < 16) where
+module _ (c : Card) (mode : OpModeId) (g : Stocked c) (h : firstMode 0 mode (c .modes) < 16) where
   -- the slot found is held and is Seal's mode
   pub sealed-found : Found (sealedSlot c mode) mode
   sealed-found = first-found mode (c .modes) (omega (arith, g .modes-long))
@@ -40,7 +41,7 @@ module _ (c : Card) (mode : ℕ) (g : Stocked c) (h : firstMode 0 mode (c .modes
   sealed-size : c .«reply_size» ≡ blocksFor (length (sealedRecord c mode) + 16)
   sealed-size = sym (sealed-good .size) ∙ ap (λ (n : ℕ). blocksFor (n + 16)) (sym length-sealedRecord)
 
-module _ (c : Card) (i : KeySetId) (fa r1 r2 : List ℕ) (mode : ℕ) (payload : List ℕ) (k : SharedSession c i fa r1 r2 mode payload) (g : Stocked c)
+module _ (c : Card) (i : KeySetId) (fa r1 r2 : List ℕ) (mode : OpModeId) (payload : List ℕ) (k : SharedSession c i fa r1 r2 mode payload) (g : Stocked c)
     (h : firstMode 0 mode (c .modes) < 16) where
   -- the reply is the mode's record and DivData, padded, by CBC under KeysHash
   pub seal-reply : (fresh : List ℕ) →

@@ -15,6 +15,7 @@ use Rattle.padding.specs.Laws.{length-padded}
 use Rattle.cbc.specs.Cbc.{decrypted, zeros}
 use Rattle.frame.specs.Frame.{dataOf}
 use Rattle.plaid_types.specs.declared.KeySetId.{KeySetId}
+use Rattle.plaid_types.specs.declared.OpModeId.{OpModeId}
 use Rattle.plaid_types.specs.declared.Session.{Session}
 use Rattle.plaid_types.specs.declared.Card.{Card}
 use Rattle.final_command.specs.Final.{faKeyOf, rnd1Of, diversified, blocksIn, textOf, hashedOf, keysHash, opMode, decipheredText}
@@ -26,24 +27,24 @@ use Rattle.session_final.specs.Buffer.{over-part, over-mode, over-rnd2}
 
 -- a card in an open session, and what Seal takes: the session's FAKey and RND1, the card's DivData, RND2, a mode and a payload. (That Seal declines
 -- a payload over 205 bytes is no matter here.)
-pub record SharedSession (c : Card) (i : KeySetId) (fa r1 r2 : List ℕ) (mode : ℕ) (payload : List ℕ) : Type 0 where
+pub record SharedSession (c : Card) (i : KeySetId) (fa r1 r2 : List ℕ) (mode : OpModeId) (payload : List ℕ) : Type 0 where
   pub in-session : c .session ≡ record { opened = true; id = i; rnd1 = r1 }
   pub same-key : faKeyOf c ≡ fa
   pub key-bytes : Bytes fa
   pub div-block : Block (c .«div_data»)
   pub rnd2-block : Block r2
   pub payload-bytes : Bytes payload
-  pub mode-most : mode < 65536
+  pub mode-most : mode .0 < 65536
 
 -- the data of Seal's command
-abbrev pub sealed : Card → List ℕ → List ℕ → List ℕ → ℕ → List ℕ → List ℕ
+abbrev pub sealed : Card → List ℕ → List ℕ → List ℕ → OpModeId → List ℕ → List ℕ
 sealed c fa r1 r2 mode payload = dataOf (sealCommand fa (c .«div_data») r1 r2 mode payload)
 
 -- the STR2 that Seal made
-abbrev pub sealedText : List ℕ → List ℕ → ℕ → List ℕ → List ℕ
+abbrev pub sealedText : List ℕ → List ℕ → OpModeId → List ℕ → List ℕ
 sealedText r1 r2 mode payload = str2 mode r2 payload (keysHashOf r1 r2)
 
-module _ (c : Card) (i : KeySetId) (fa r1 r2 : List ℕ) (mode : ℕ) (payload : List ℕ) (k : SharedSession c i fa r1 r2 mode payload) where
+module _ (c : Card) (i : KeySetId) (fa r1 r2 : List ℕ) (mode : OpModeId) (payload : List ℕ) (k : SharedSession c i fa r1 r2 mode payload) where
   key-same : diversified c ≡ diversifiedBy fa (c .«div_data»)
   unfolding diversified diversifiedBy
   key-same = ap (λ (x : List ℕ). aes 4 x (c .«div_data»)) (k .same-key)
@@ -90,7 +91,7 @@ module _ (c : Card) (i : KeySetId) (fa r1 r2 : List ℕ) (mode : ℕ) (payload :
   pub seal-mode : opMode (textOf c (sealed c fa r1 r2 mode payload)) ≡ mode
   unfolding opMode
   seal-mode =
-      ap (λ (x : List ℕ). getD x 0 0 * 256 + getD x 1 0) seal-text ∙ over-mode (replicate 240 0) mode r2 payload (keysHashOf r1 r2)
+      ap (λ (n : ℕ). record { 0 = n }) (ap (λ (x : List ℕ). getD x 0 0 * 256 + getD x 1 0) seal-text ∙ over-mode (replicate 240 0) mode r2 payload (keysHashOf r1 r2))
 
   -- and the RND2
   pub seal-rnd2 : part (textOf c (sealed c fa r1 r2 mode payload)) 2 16 ≡ r2

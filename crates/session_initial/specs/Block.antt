@@ -7,27 +7,28 @@ use lib.ListN.{length, getD, length-append, length-drop}
 use lib.Seq.{getD-at, getD-append-add}
 use Rattle.octets.specs.Lists.{part}
 use Rattle.frame.specs.Declines.{padBytes}
+use Rattle.plaid_types.specs.declared.KeySetId.{KeySetId}
 use Rattle.initial.specs.Initial.{str1, blockOf}
 use Rattle.session_initial.specs.Parts.{part-after, part-last, part-behind}
 
 -- where each part stands in the block b
-pub record BlockParts (b pad : List ℕ) (k : ℕ) (div rnd1 : List ℕ) : Type 0 where
+pub record BlockParts (b pad : List ℕ) (k : KeySetId) (div rnd1 : List ℕ) : Type 0 where
   pub size : length b ≡ 256
   pub zero-first : getD b 0 0 ≡ 0
   pub type-two : getD b 1 0 ≡ 2
   pub pads : part b 2 203 ≡ pad
   pub zero-behind : getD b 205 0 ≡ 0
-  pub id : getD b 206 0 * 256 + getD b 207 0 ≡ k
+  pub id : getD b 206 0 * 256 + getD b 207 0 ≡ k .0
   pub div-data : part b 208 16 ≡ div
   pub rnd1-once : part b 224 16 ≡ rnd1
   pub rnd1-again : part b 240 16 ≡ rnd1
 
-module _ (pad : List ℕ) (k : ℕ) (div rnd1 : List ℕ) (lp : length pad ≡ 203) (ld : length div ≡ 16) (lr : length rnd1 ≡ 16) where
+module _ (pad : List ℕ) (k : KeySetId) (div rnd1 : List ℕ) (lp : length pad ≡ 203) (ld : length div ≡ 16) (lr : length rnd1 ≡ 16) where
   abbrev front : List ℕ
   front = 0 ∷ 2 ∷ (pad ++ (0 ∷ []))
 
   abbrev text : List ℕ
-  text = k / 256 ∷ k % 256 ∷ (div ++ (rnd1 ++ rnd1))
+  text = k .0 / 256 ∷ k .0 % 256 ∷ (div ++ (rnd1 ++ rnd1))
 
   length-front : length front ≡ 206
   length-front = omega (arith, length-append pad (0 ∷ []))
@@ -45,7 +46,7 @@ module _ (pad : List ℕ) (k : ℕ) (div rnd1 : List ℕ) (lp : length pad ≡ 2
 
   -- behind the KeySetID
   of-rest : (j i m : ℕ) → j ≡ 2 + i → part text j m ≡ part (div ++ (rnd1 ++ rnd1)) i m
-  of-rest j i m e = part-behind (k / 256 ∷ k % 256 ∷ []) (div ++ (rnd1 ++ rnd1)) j i m e
+  of-rest j i m e = part-behind (k .0 / 256 ∷ k .0 % 256 ∷ []) (div ++ (rnd1 ++ rnd1)) j i m e
 
   behind-two : front ++ text ≡ 0 ∷ 2 ∷ (pad ++ (0 ∷ text))
   behind-two = ap (λ (x : List ℕ). 0 ∷ 2 ∷ x) (append-assoc pad (0 ∷ []) text)
@@ -62,7 +63,7 @@ module _ (pad : List ℕ) (k : ℕ) (div rnd1 : List ℕ) (lp : length pad ≡ 2
         pads = ap (λ (x : List ℕ). part x 2 203) behind-two ∙ part-after (0 ∷ 2 ∷ []) pad (0 ∷ text) 2 203 refl lp;
         zero-behind = zero-at;
         id = omega (arith, in-text 206 0 (omega arith), in-text 207 1 (omega arith));
-        div-data = of-text 208 2 16 (omega arith) ∙ part-after (k / 256 ∷ k % 256 ∷ []) div (rnd1 ++ rnd1) 2 16 refl ld;
+        div-data = of-text 208 2 16 (omega arith) ∙ part-after (k .0 / 256 ∷ k .0 % 256 ∷ []) div (rnd1 ++ rnd1) 2 16 refl ld;
         rnd1-once = of-text 224 18 16 (omega arith) ∙ of-rest 18 16 16 (omega arith) ∙ part-after div rnd1 rnd1 16 16 ld lr;
         rnd1-again =
             of-text 240 34 16 (omega arith)
@@ -73,7 +74,7 @@ module _ (pad : List ℕ) (k : ℕ) (div rnd1 : List ℕ) (lp : length pad ≡ 2
 
 -- the block of an accepted initial command has these parts
 pub block-parts :
-    (fresh : List ℕ) (k : ℕ) (div rnd1 : List ℕ)
+    (fresh : List ℕ) (k : KeySetId) (div rnd1 : List ℕ)
     → length fresh ≡ 253
     → length div ≡ 16
     → length rnd1 ≡ 16

@@ -9,6 +9,7 @@ use lib.Dec.{eqb}
 use lib.ListN.{length, getD}
 use Rattle.list.specs.Ber.{entryAt, placeCount, listed}
 use Rattle.plaid_types.specs.Cards.{noSet}
+use Rattle.plaid_types.specs.declared.KeySetId.{KeySetId}
 use Rattle.plaid_types.specs.declared.KeySetSlot.{KeySetSlot}
 use Rattle.plaid_types.specs.declared.Card.{Card}
 use Rattle.load.specs.Laws.{Stocked, setAt}
@@ -17,7 +18,7 @@ use Rattle.session_initial.specs.Held.{heldIn, slot-missing, Holds, slot
 
 -- a slot that a place's look finds is held
 found-held :
-    (ss : List KeySetSlot) (present : Bool) (k : ℕ) (t : Bool)
+    (ss : List KeySetSlot) (present : Bool) (k : KeySetId) (t : Bool)
     → length ss ≡ 8
     → heldIn ss k ≡ t
     → firstSlot 0 present k ss < 8
@@ -48,7 +49,7 @@ place-held ss formed d p (suc n) l h =
     (λ q. found-held ss (formed && entryAt d p .ok) (entryAt d p .id) (heldIn ss (entryAt d p .id)) l refl q)
     (λ q. place-held ss formed d (entryAt d p .next) n l q) h
 
-pub accepted-holds : (c : Card) → Stocked c → (d : List ℕ) → acceptsInitial c d ≡ true → Holds (c .sets) (slotOf c d) (setAt c (slotOf c d) .id .0)
+pub accepted-holds : (c : Card) → Stocked c → (d : List ℕ) → acceptsInitial c d ≡ true → Holds (c .sets) (slotOf c d) (setAt c (slotOf c d) .id)
 unfolding slotOf
 accepted-holds c s d e =
     let h : slotOf c d < 8 = ltb-true (slotOf c d) 8 e in

@@ -1,5 +1,5 @@
 -- Document 01, "Work sum": what each kind of step has as key, input and output. (A cipher step's are in the crate cbc.)
-use mathlib.Core.Bool.{Bool, cond, _&&_}
+use mathlib.Core.Bool.{Bool, true, cond, _&&_}
 use mathlib.Core.List.{List, [], _∷_, _++_, flatten}
 use Prim.Native.Nat.{ℕ, suc, _/_, _%_}
 use lib.Dec.{eqb}
@@ -8,6 +8,8 @@ use Rattle.aes.specs.KeyExpansion.{roundKeys}
 use Rattle.sha256.specs.Parsing.{blocks, blockAt}
 use Rattle.sha256.specs.Hash.{stateAfter, digestBytes}
 use Rattle.work.specs.Steps.{Step, comparison, expansion, hashBlock}
+use Rattle.plaid_types.specs.declared.KeySetId.{KeySetId}
+use Rattle.plaid_types.specs.declared.OpModeId.{OpModeId}
 
 -- "An expansion has the key, no input, and the round keys as output."
 abbrev pub expansionStep : List ℕ → Step
@@ -36,6 +38,20 @@ bitOf hit = cond hit 1 0
 -- "A comparison has no key"
 abbrev pub comparisonStep : Bool → ℕ → Bool → ℕ → Step
 comparisonStep present v held w = record { kind = comparison; key = []; input = shown present v ++ shown held w; output = bitOf (matched present v held w) ∷ [] }
+
+-- "a key set number is never taken where a mode number belongs": a place's value and a key set slot's
+abbrev pub setMatched : Bool → KeySetId → Bool → KeySetId → Bool
+setMatched present v held w = matched present (v .0) held (w .0)
+
+abbrev pub setComparison : Bool → KeySetId → Bool → KeySetId → Step
+setComparison present v held w = comparisonStep present (v .0) held (w .0)
+
+-- a text's value, which is never missing, and a mode slot's
+abbrev pub modeMatched : OpModeId → Bool → OpModeId → Bool
+modeMatched v held w = matched true (v .0) held (w .0)
+
+abbrev pub modeComparison : OpModeId → Bool → OpModeId → Step
+modeComparison v held w = comparisonStep true (v .0) held (w .0)
 
 -- the first match so far: `first` where there is one (it is below n), else i where i matches, else n
 abbrev pub kept : ℕ → ℕ → ℕ → Bool → ℕ

@@ -1,10 +1,24 @@
 //! Steps of a command: each function makes one, and hands back its result, its count and the work sum together.
+use plaid_types::KeySetId;
+use plaid_types::OpModeId;
 ghost use mathlib.Core.Path.{_≡_};
 ghost use mathlib.Core.List.{[], _∷_};
 ghost use Rattle.work.specs.Steps.{comparison, expansion, hashBlock, mixedAll, sumFrom, counted};
 ghost use Rattle.aes.specs.KeyExpansion.{roundKeys};
 ghost use Rattle.sha256.specs.Hash.{sha256};
-ghost use Rattle.steps.specs.Made.{expansionStep, hashSteps, shown, matched, bitOf, comparisonStep, kept};
+ghost use Rattle.steps.specs.Made.{
+  expansionStep,
+  hashSteps,
+  shown,
+  matched,
+  bitOf,
+  comparisonStep,
+  setMatched,
+  setComparison,
+  modeMatched,
+  modeComparison,
+  kept,
+};
 
 pub struct Expanded {
     pub rows: [[u8; 16]; 11],
@@ -106,7 +120,7 @@ fn bit(y: bool) -> u8
 }
 
 // Compares a value, which may be missing, with a slot's, which may be empty.
-pub fn compare(present: bool, v: u16, held: bool, w: u16, sum: u32) -> Compared
+fn compare(present: bool, v: u16, held: bool, w: u16, sum: u32) -> Compared
     ensures { λ r. ⌜ r ≡ record { hit = matched present v held w; count = counted comparison (comparisonStep present v held w ∷ []); sum = sumFrom sum (comparisonStep present v held w ∷ []) } ⌝ }
 {
     let hit = matches(present, v, held, w);
@@ -119,6 +133,20 @@ pub fn compare(present: bool, v: u16, held: bool, w: u16, sum: u32) -> Compared
         count: 1,
         sum: d,
     }
+}
+
+// A place's KeySetID, which may be missing, and a key set slot's.
+pub fn compare_sets(present: bool, v: KeySetId, held: bool, w: KeySetId, sum: u32) -> Compared
+    ensures { λ r. ⌜ r ≡ record { hit = setMatched present v held w; count = counted comparison (setComparison present v held w ∷ []); sum = sumFrom sum (setComparison present v held w ∷ []) } ⌝ }
+{
+    compare(present, v.0, held, w.0, sum)
+}
+
+// A text's OpModeID and a mode slot's.
+pub fn compare_modes(v: OpModeId, held: bool, w: OpModeId, sum: u32) -> Compared
+    ensures { λ r. ⌜ r ≡ record { hit = modeMatched v held w; count = counted comparison (modeComparison v held w ∷ []); sum = sumFrom sum (modeComparison v held w ∷ []) } ⌝ }
+{
+    compare(true, v.0, held, w.0, sum)
 }
 
 // The first hit: at where there was one already, else i where this is one, else n.

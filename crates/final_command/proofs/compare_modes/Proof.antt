@@ -32,11 +32,11 @@ mul-k c = search needs
 array-copy-out-k : tie.Need-array-copy-out-k Inv-loop μ-loop
 array-copy-out-k c = search needs
 
-compare-requires : tie.Need-compare-requires Inv-loop μ-loop
-compare-requires c κs = search needs
+compare-modes-requires : tie.Need-compare-modes-requires Inv-loop μ-loop
+compare-modes-requires c κs = search needs
 
 add-count : tie.Need-add-count Inv-loop μ-loop
-add-count c = omega (arith, ap (λ r. r .count) (c .before .compare .ensures))
+add-count c = omega (arith, ap (λ r. r .count) (c .before .compare-modes .ensures))
 
 keep-requires : tie.Need-keep-requires Inv-loop μ-loop
 keep-requires c κs = search needs
@@ -51,7 +51,7 @@ loop-again : tie.Need-loop-again Inv-loop μ-loop
 loop-again c =
     let l = c .before .before .before .before .before .before .loop in
     let a = c .before .before .before .before .before .before .before .args in
-    let e = c .before .before .compare .ensures in
+    let e = c .before .before .compare-modes .ensures in
     let h : l .i < length (a .t1) = omega arith in (
       omega arith,
       omega (arith, ap (λ r. r .count) e),
@@ -76,7 +76,7 @@ compare-modes-spec =
     loop-holds
     mul-k
     array-copy-out-k
-    compare-requires
+    compare-modes-requires
     add-count
     keep-requires
     add-i

@@ -15,7 +15,7 @@ word-requires c κs = search needs
 
 returns : tie.Need-returns
 unfolding opMode
-returns c = c .word .ensures
+returns c = rw (c .word .ensures)
 
 pub op-mode-spec : {M : Type 1} → statement M
 op-mode-spec = tie.close (tie.spec array-read-word array-read-word-2 word-requires returns)

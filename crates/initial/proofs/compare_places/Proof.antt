@@ -34,10 +34,10 @@ compare-slots-requires c κs = search needs
 
 add-count : tie.Need-add-count Inv-loop μ-loop
 add-count c =
-    let s = c .before .before .before .before .before .before .before .before in
+    let s = c .before .before .before .before .before .before .before .before .before in
     let l : length (s .args .sets) ≡ 8 = search needs in
     let e : c .before .compare-slots .result .count ≡ 8 = count-slots _ _ _ (s .args .sets) l (c .before .compare-slots .ensures) in
-    omega (arith, e, c .before .before .before .before .before .loop .inv .few, s .pre)
+    omega (arith, e, c .before .before .before .before .before .before .loop .inv .few, s .pre)
 
 first-of-requires : tie.Need-first-of-requires Inv-loop μ-loop
 first-of-requires c κs = search needs
@@ -55,9 +55,9 @@ loop-again c =
     _
     _
     (search needs)
-    (c .before .before .before .before .before .loop-test .taken)
-    (c .before .before .before .before .before .before .loop .inv)
-    (c .before .before .before .before .step-from .ensures)
+    (c .before .before .before .before .before .before .loop-test .taken)
+    (c .before .before .before .before .before .before .before .loop .inv)
+    (c .before .before .before .before .before .step-from .ensures)
     (c .before .before .before .both .ensures)
     (c .before .before .compare-slots .ensures)
     (c .first-of .ensures)

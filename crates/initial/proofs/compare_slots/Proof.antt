@@ -23,11 +23,11 @@ mul-k c = search needs
 array-copy-out-k : tie.Need-array-copy-out-k Inv-loop μ-loop
 array-copy-out-k c = search needs
 
-compare-requires : tie.Need-compare-requires Inv-loop μ-loop
-compare-requires c κs = search needs
+compare-sets-requires : tie.Need-compare-sets-requires Inv-loop μ-loop
+compare-sets-requires c κs = search needs
 
 add-count : tie.Need-add-count Inv-loop μ-loop
-add-count c = omega (arith, ap (λ (r : Compared). r .count) (c .before .compare .ensures), c .before .before .before .before .before .loop .inv .few)
+add-count c = omega (arith, ap (λ (r : Compared). r .count) (c .before .compare-sets .ensures), c .before .before .before .before .before .loop .inv .few)
 
 keep-requires : tie.Need-keep-requires Inv-loop μ-loop
 keep-requires c κs = search needs
@@ -40,7 +40,7 @@ loop-less c = search needs
 
 loop-again : tie.Need-loop-again Inv-loop μ-loop
 loop-again c =
-    slots-turn _ _ _ _ (search needs) (search needs) (c .before .before .before .before .before .before .loop .inv) (c .before .before .compare .ensures)
+    slots-turn _ _ _ _ (search needs) (search needs) (c .before .before .before .before .before .before .loop .inv) (c .before .before .compare-sets .ensures)
     (c .keep .ensures)
 
 returns : tie.Need-returns Inv-loop μ-loop
@@ -55,7 +55,7 @@ compare-slots-spec =
     loop-holds
     mul-k
     array-copy-out-k
-    compare-requires
+    compare-sets-requires
     add-count
     keep-requires
     add-i

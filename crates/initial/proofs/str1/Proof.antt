@@ -47,7 +47,7 @@ returns c =
     _
     (search needs)
     (search needs)
-    (omega (arith, c .before .before .before .before .before .before .before .before .before .before .before .before .before .before .before .before .before .before .before .before .before .pre))
+    (omega (arith, c .before .before .before .before .before .before .before .before .before .before .before .before .before .before .before .before .before .before .before .before .before .before .before .pre))
     (c .before .before .before .before .before .before .before .before .before .before .before .before .before .before .before .before .before .copy-at .ensures)
     (c .before .before .before .before .before .before .before .before .before .before .before .before .copy-at2 .ensures)
     (c .before .before .before .before .before .before .before .copy-at3 .ensures)

@@ -1,9 +1,9 @@
 -- `agrees` meets its contract: what the calls ensure is put into the definition. Assumes nothing.
-use Prim.Native.Nat.{ℕ}
 use mathlib.Core.Path.{ap, ap₂, _∙_}
 use mathlib.Core.Bool.{_&&_}
 use lib.Dec.{eqb}
 use Rattle.octets.specs.Bytes.{same}
+use Rattle.plaid_types.specs.declared.KeySetId.{KeySetId}
 use Rattle.reader_open.specs.Open.{agrees}
 use borrow.Author.Needs.{needs}
 use Rattle.reader_open.proofs.agrees.Statement.{statement}
@@ -28,8 +28,8 @@ returns : tie.Need-returns
 unfolding agrees
 returns c =
     c .both .ensures
-    ∙ ap₂ (λ x y. x && y) (ap (λ (x : ℕ). eqb x (c .before .before .before .before .before .before .args .id)) (c .before .id-of .ensures))
-    (c .before .before .equal .ensures ∙ ap₂ same (c .before .before .before .before .block-at .ensures) (c .before .before .before .block-at2 .ensures))
+    ∙ ap₂ (λ x y. x && y) (ap (λ (x : KeySetId). eqb (x .0) (c .before .before .before .before .before .before .before .before .args .id .0)) (c .before .before .before .id-of .ensures))
+    (c .before .before .before .before .equal .ensures ∙ ap₂ same (c .before .before .before .before .before .before .block-at .ensures) (c .before .before .before .before .before .block-at2 .ensures))
 
 pub agrees-spec : {M : Type 1} → statement M
 agrees-spec =

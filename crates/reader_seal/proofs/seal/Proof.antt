@@ -12,7 +12,7 @@ declined-requires c κs = search needs
 returns : tie.Need-returns
 returns c =
     let a = c .before .before .before .before .args in
-    let k = payload-long (a .fa-key) (a .div-data) (a .rnd1) (a .rnd2) (a .mode .0) (a .payload .now) (a .out .now) (omega arith) in
+    let k = payload-long (a .fa-key) (a .div-data) (a .rnd1) (a .rnd2) (a .mode) (a .payload .now) (a .out .now) (omega arith) in
     (c .declined .ensures ∙ k .0, k .1)
 
 add-blocks-for : tie.Need-add-blocks-for
@@ -33,7 +33,7 @@ declined-requires-2 c κs = search needs
 returns-2 : tie.Need-returns-2
 returns-2 c =
     let a = c .before .before .before .before .before .before .args in
-    let k = output-short (a .fa-key) (a .div-data) (a .rnd1) (a .rnd2) (a .mode .0) (a .payload .now) (a .out .now) (omega arith) (omega (arith, c .before .before .blocks-for .ensures)) in
+    let k = output-short (a .fa-key) (a .div-data) (a .rnd1) (a .rnd2) (a .mode) (a .payload .now) (a .out .now) (omega arith) (omega (arith, c .before .before .blocks-for .ensures)) in
     (c .declined2 .ensures ∙ k .0, k .1)
 
 keys-hash-requires : tie.Need-keys-hash-requires
@@ -59,7 +59,7 @@ returns-3 c =
     (a .div-data)
     (a .rnd1)
     (a .rnd2)
-    (a .mode .0)
+    (a .mode)
     (a .payload .now)
     (a .out .now)
     (c .before .before .before .before .before .before .before .blocks-for .ensures)
