@@ -145,6 +145,29 @@ typedef char plaid_size_is_64_bits[sizeof(size_t) == 8 ? 1 : -1];
 #define PLAID_ANSWER_FINAL_MOST 96      /* so 32, 48, 64, 80 or 96 */
 
 /*
+ * Stack, in bytes: how much of the caller's stack a call takes, at most.
+ *
+ * Counted from the caller's stack pointer before the arguments are laid, so
+ * the structs that pass by value are in it, the return address, and all that
+ * the library uses below. The result is not: it stands where the caller has
+ * it. What interrupts and signals put on the same stack comes on top. So does
+ * what the platform's memcpy and memset, which the library calls, take beyond
+ * their return address.
+ *
+ * Measured on x86-64 and not proved: by the deepest byte that accepted,
+ * refused and declined calls write on a painted stack, and by the bytes that
+ * the library's machine code reserves, written or not, in its deepest chain
+ * of calls. It is the greater of the two, in whole sixteens.
+ */
+#define PLAID_STACK_LOAD 5280
+#define PLAID_STACK_COMMAND 8752
+#define PLAID_STACK_LIST 144
+#define PLAID_STACK_OPEN 160
+#define PLAID_STACK_SEAL 1264
+#define PLAID_STACK_ACCEPT 944
+#define PLAID_STACK_RECORD 16
+
+/*
  * Status of a command's answer (ISO/IEC 7816-4)
  */
 #define PLAID_ANSWER_OK 0x9000

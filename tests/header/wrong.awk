@@ -2,8 +2,8 @@
 #
 #   awk -v dir=DIR -f wrong.awk plaid.h
 #
-# constant: a constant is one more. swapped: two neighbouring fields of a struct change places. typed: a field has another type.
-# declared: a function takes one argument more.
+# constant: a constant is one more. stack: the same of the stack's figures, which tests/stack holds. swapped: two neighbouring fields of a
+# struct change places. typed: a field has another type. declared: a function takes one argument more.
 
 { line[NR] = $0 }
 
@@ -45,7 +45,7 @@ END {
         } else if (line[i] ~ /^#define PLAID_[A-Z0-9_]+ [0-9]/) {
             edited = line[i]
             sub(" " word[3], " (" word[3] " + 1)", edited)
-            write("constant", word[2], i, edited)
+            write(word[2] ~ /^PLAID_STACK_/ ? "stack" : "constant", word[2], i, edited)
         } else if (line[i] ~ /^plaid_[a-z]+ plaid_[a-z]+\(/) {
             edited = line[i]
             sub(/\(/, "(int more, ", edited)

@@ -1,0 +1,412 @@
+/*
+ * How much stack each exported function takes, held to the figures of plaid.h.
+ *
+ *   stack FUNCTION=BYTES ..    what each function reserves by its machine code, its return address included (frames.awk)
+ *
+ * Each call is made on a stack of its own that was painted before. The deepest byte that is not as painted is the depth, counted from the
+ * caller's stack pointer before the arguments are laid. A figure holds where no call is deeper, where arguments and reserved bytes
+ * are not deeper either, and where it is at most a quarter above the deepest call, or the next multiple of 16: it is no guess.
+ *
+ * To add a function: a line in FUNCTIONS and one for each path in CALLS. The last line is 'N passed, M failed'.
+ */
+#include "plaid.h"
+
+#include <stdio.h>
+#include <stdlib.h>
+#include <string.h>
+#include <ucontext.h>
+
+#define LENGTH(array) (sizeof(array) / sizeof((array)[0]))
+
+/*
+ * The calls
+ */
+
+/* A result of more than 16 bytes goes where the first argument points (System V ABI, x86-64): no copy of it is on the caller's stack. */
+typedef void raw_load(void *, const plaid_key_set *, size_t, plaid_given, const uint8_t *, size_t);
+typedef void raw_command(void *, plaid_card, const uint8_t *, size_t, const uint8_t *, size_t, uint8_t *, size_t);
+typedef void raw_open(void *, plaid_ids, const uint8_t *, size_t);
+typedef void raw_seal(void *, plaid_sealing, const uint8_t *, size_t, uint8_t *, size_t);
+
+/* volatile, or a compiler sees the other type and makes no call. */
+#define AS(type, function) ((type *)(void (*)(void))(function))
+static raw_load *volatile load_at = AS(raw_load, plaid_load);
+static raw_command *volatile command_at = AS(raw_command, plaid_command);
+static raw_open *volatile open_at = AS(raw_open, plaid_open);
+static raw_seal *volatile seal_at = AS(raw_seal, plaid_seal);
+
+/* What the calls take and hand back. None of it is on the painted stack. */
+static plaid_key_set sets[PLAID_CARD_KEY_SETS + 1];
+static plaid_given given;
+static uint8_t area[PLAID_CARD_AREA];
+static plaid_card card;
+static uint8_t command[PLAID_COMMAND_MOST], fresh[PLAID_FRESH], out[PLAID_OUTPUT];
+static size_t set_count, command_len;
+static plaid_ids ids;
+static uint8_t blocks[PLAID_LIST_IDS * PLAID_BLOCK];
+static plaid_sealing sealing;
+static uint8_t payload[PLAID_PAYLOAD + 1];
+static plaid_accepting accepting;
+static uint8_t response[PLAID_ANSWER_FINAL_MOST], work[PLAID_ANSWER_FINAL_MOST];
+
+static plaid_loaded loaded;
+static plaid_outcome outcome;
+static plaid_written written;
+static plaid_opened opened;
+static plaid_sealed sealed;
+static plaid_accepted accepted;
+static plaid_part part;
+
+/* A full load: eight key sets, sixteen modes with records of 64 bytes, so B = 6. */
+static void given_load(void)
+{
+    memset(&given, 0, sizeof given);
+    for (unsigned i = 0; i < LENGTH(sets); i++) {
+        sets[i].id.value = (uint16_t)(0x0101 * (i + 1));
+        sets[i].handle = (uint8_t)(i + 1);
+        memset(sets[i].fa_key, 0x30 + (int)i, PLAID_KEY);
+    }
+    for (unsigned i = 0; i < LENGTH(given.modes); i++) {
+        given.modes[i].id.value = (uint16_t)(0x0A00 + i);
+        given.modes[i].start = PLAID_CARD_RECORD * i;
+        given.modes[i].len = PLAID_CARD_RECORD;
+    }
+    set_count = PLAID_CARD_KEY_SETS;
+    given.mode_count = PLAID_CARD_MODES;
+    memset(given.div_data, 0xD1, PLAID_DIV_DATA);
+    memset(given.shill_key, 0x5E, PLAID_KEY);
+    given.shill_handle = 0x77;
+    memset(area, 0x41, sizeof area);
+}
+
+static void given_bad_handle(void) { given_load(); sets[7].handle = given.shill_handle; }
+static void given_bad_mode(void) { given_load(); given.modes[15].id = given.modes[0].id; }
+static void given_bad_record(void) { given_load(); given.modes[15].len = PLAID_CARD_RECORD + 1; }
+static void given_bad_size(void) { given_load(); given.modes[15].len = 1; }
+static void given_too_many(void) { given_load(); set_count = PLAID_CARD_KEY_SETS + 1; }
+
+/* The loaded card, and fresh bytes. */
+static void given_card(void)
+{
+    given_load();
+    loaded = plaid_load(sets, set_count, given, area, sizeof area);
+    card = loaded.card;
+    memset(fresh, 0xF5, sizeof fresh);
+    memset(out, 0, sizeof out);
+}
+
+/* The initial command of the greatest Lc, 255: 63 entries, of which the card holds the last, or none. */
+static void given_list(bool held)
+{
+    given_card();
+    memset(command, 0, sizeof command);
+    memcpy(command, (uint8_t[]){0, PLAID_INS_INITIAL, 0, 0, 255, 0x30, 0x81, 252}, 8);
+    for (size_t i = 0; i < 63; i++)
+        memcpy(command + 8 + 4 * i, (uint8_t[]){0x04, 0x02, 0xEE, (uint8_t)i}, 4);
+    if (held)
+        command[8 + 4 * 62 + 2] = command[8 + 4 * 62 + 3] = 0x08;
+    command_len = PLAID_COMMAND_MOST;
+}
+
+static void given_initial(void) { given_list(true); }
+static void given_unknown(void) { given_list(false); }
+static void given_malformed(void) { given_list(true); command[8] = 0x05; }
+static void given_zero_pad(void) { given_list(true); fresh[PLAID_FRESH - 1] = 0; }
+static void given_no_frame(void) { given_list(true); command_len = 3; }
+
+static void given_sealing(void)
+{
+    memcpy(sealing.fa_key, sets[7].fa_key, PLAID_KEY);
+    memcpy(sealing.div_data, given.div_data, PLAID_DIV_DATA);
+    memcpy(sealing.rnd1, fresh, PLAID_RND);
+    memset(sealing.rnd2, 0x62, PLAID_RND);
+    sealing.mode = given.modes[15].id;
+}
+
+/* A card in session, and the final command with a payload of so many bytes; KeysHash and DivData for Accept. */
+static void given_final(size_t payload_len)
+{
+    given_initial();
+    card = plaid_command(card, command, command_len, fresh, sizeof fresh, out, sizeof out).card;
+    given_sealing();
+    sealed = plaid_seal(sealing, payload, payload_len, command, sizeof command);
+    command_len = sealed.length;
+    memcpy(accepting.keys_hash, sealed.keys_hash, PLAID_KEYS_HASH);
+    memcpy(accepting.div_data, given.div_data, PLAID_DIV_DATA);
+}
+
+static void given_longest_final(void) { given_final(PLAID_PAYLOAD); }
+static void given_shortest_final(void) { given_final(0); }
+static void given_wrong_final(void) { given_final(PLAID_PAYLOAD); command[5] ^= 1; }
+static void given_bad_padding(void) { given_final(PLAID_PAYLOAD); command[244] ^= 1; }
+
+/* A final command with Lc data bytes of no meaning. */
+static void given_odd_final(size_t lc)
+{
+    given_final(PLAID_PAYLOAD);
+    memset(command + 5, 0x99, sizeof command - 5);
+    command[4] = (uint8_t)lc;
+    command[5 + lc] = 0;
+    command_len = lc + 6;
+}
+
+static void given_most_final(void) { given_odd_final(255); }
+static void given_least_final(void) { given_odd_final(1); }
+static void given_no_session(void) { given_odd_final(255); card.session = loaded.card.session; }
+
+static void given_ids(void)
+{
+    for (unsigned i = 0; i < PLAID_LIST_IDS; i++)
+        ids.ids[i].value = (uint16_t)(0x0700 + i);
+    ids.count = PLAID_LIST_IDS;
+}
+
+static void given_ids_twice(void) { given_ids(); ids.ids[15] = ids.ids[0]; }
+
+/* Sixteen blocks, of which the last opens. */
+static void given_blocks(void)
+{
+    given_ids();
+    memset(blocks, 0x99, sizeof blocks);
+    for (size_t i = 0; i < PLAID_LIST_IDS; i++) {
+        uint8_t *block = blocks + i * PLAID_BLOCK;
+        block[0] = block[2 + PLAID_FRESH_PADS] = 0;
+        block[1] = 2;
+    }
+    memcpy(blocks + sizeof blocks - 50, (uint8_t[]){0x07, 0x0F}, 2);
+}
+
+static void given_no_block(void) { given_blocks(); blocks[sizeof blocks - 1] ^= 1; }
+
+/* The card's longest answer, 96 bytes. */
+static void given_response(void)
+{
+    given_longest_final();
+    plaid_command(card, command, command_len, fresh, sizeof fresh, out, sizeof out);
+    memcpy(response, out, sizeof response);
+}
+
+static void given_wrong_response(void) { given_response(); response[95] ^= 1; }
+
+static void given_record(void) { given_response(); accepted = plaid_accept(accepting, response, 96, work, 96); }
+static void given_no_record(void) { given_wrong_response(); accepted = plaid_accept(accepting, response, 96, work, 96); }
+
+/* Whether a final answer is one that the reader takes. */
+static bool taken(void)
+{
+    return plaid_accept(accepting, out, outcome.answer.length, work, sizeof work).number == PLAID_DONE;
+}
+
+static bool answered(size_t length)
+{
+    return outcome.answer.number == PLAID_DONE && outcome.answer.status == PLAID_ANSWER_OK && outcome.answer.length == length;
+}
+
+/* The functions, with the bytes of their arguments on the stack: structs over 16 bytes, and integers past the sixth. */
+#define FUNCTIONS(f) \
+    f(LOAD, plaid_load, sizeof(plaid_given)) \
+    f(COMMAND, plaid_command, sizeof(plaid_card) + sizeof(size_t)) \
+    f(LIST, plaid_list, sizeof(plaid_ids)) \
+    f(OPEN, plaid_open, sizeof(plaid_ids)) \
+    f(SEAL, plaid_seal, sizeof(plaid_sealing)) \
+    f(ACCEPT, plaid_accept, sizeof(plaid_accepting)) \
+    f(RECORD, plaid_record, 0)
+
+#define LOADS(label, give, test) \
+    c(LOAD, label, give, load_at(&loaded, sets, set_count, given, area, sizeof area), test)
+#define RUNS(label, give, fresh_len, out_len, test) \
+    c(COMMAND, label, give, command_at(&outcome, card, command, command_len, fresh, fresh_len, out, out_len), test)
+
+/* c(FUNCTION, the path's name, what is given, the call, whether it took that path) */
+#define CALLS \
+    LOADS(load_accepted, given_load, loaded.number == PLAID_DONE) \
+    LOADS(load_refused_1, given_too_many, loaded.number == PLAID_DECLINE_KEY_SET_COUNT) \
+    LOADS(load_refused_3, given_bad_handle, loaded.number == PLAID_DECLINE_SHILL_HANDLE) \
+    LOADS(load_refused_5, given_bad_mode, loaded.number == PLAID_DECLINE_MODE_REPEATED) \
+    LOADS(load_refused_6, given_bad_record, loaded.number == PLAID_DECLINE_RECORD) \
+    LOADS(load_refused_7, given_bad_size, loaded.number == PLAID_DECLINE_REPLY_SIZE) \
+    RUNS(declined_8, given_initial, PLAID_FRESH - 1, PLAID_OUTPUT, outcome.answer.number == PLAID_DECLINE_FRESH_COUNT) \
+    RUNS(declined_9, given_zero_pad, PLAID_FRESH, PLAID_OUTPUT, outcome.answer.number == PLAID_DECLINE_PAD_BYTE) \
+    RUNS(declined_10, given_initial, PLAID_FRESH, PLAID_OUTPUT - 1, outcome.answer.number == PLAID_DECLINE_OUTPUT) \
+    RUNS(declined_frame, given_no_frame, PLAID_FRESH, PLAID_OUTPUT, outcome.answer.status == PLAID_ANSWER_WRONG_LENGTH) \
+    RUNS(initial_accepted, given_initial, PLAID_FRESH, PLAID_OUTPUT, answered(256) && outcome.card.session.opened) \
+    RUNS(initial_refused, given_unknown, PLAID_FRESH, PLAID_OUTPUT, answered(256) && !outcome.card.session.opened) \
+    RUNS(initial_malformed, given_malformed, PLAID_FRESH, PLAID_OUTPUT, answered(256) && !outcome.card.session.opened) \
+    RUNS(final_accepted, given_longest_final, PLAID_FRESH, PLAID_OUTPUT, command[4] == 240 && answered(96) && taken()) \
+    RUNS(final_accepted_48, given_shortest_final, PLAID_FRESH, PLAID_OUTPUT, command[4] == 48 && answered(96) && taken()) \
+    RUNS(final_refused, given_wrong_final, PLAID_FRESH, PLAID_OUTPUT, command[4] == 240 && answered(96) && !taken()) \
+    RUNS(final_bad_padding, given_bad_padding, PLAID_FRESH, PLAID_OUTPUT, command[4] == 240 && answered(96) && !taken()) \
+    RUNS(final_refused_255, given_most_final, PLAID_FRESH, PLAID_OUTPUT, card.session.opened && answered(96) && !taken()) \
+    RUNS(final_refused_1, given_least_final, PLAID_FRESH, PLAID_OUTPUT, card.session.opened && answered(96) && !taken()) \
+    RUNS(final_no_session, given_no_session, PLAID_FRESH, PLAID_OUTPUT, !card.session.opened && answered(96) && !taken()) \
+    c(LIST, listed, given_ids, written = plaid_list(ids, out, sizeof out), written.length == PLAID_LIST_COMMAND_MOST) \
+    c(LIST, declined_12, given_ids_twice, written = plaid_list(ids, out, sizeof out), written.number == PLAID_DECLINE_LIST_REPEATED) \
+    c(LIST, declined_13, given_ids, written = plaid_list(ids, out, 71), written.number == PLAID_DECLINE_LIST_OUTPUT) \
+    c(OPEN, opened_last, given_blocks, open_at(&opened, ids, blocks, sizeof blocks), opened.number == PLAID_DONE && opened.place == 15) \
+    c(OPEN, none_opens, given_no_block, open_at(&opened, ids, blocks, sizeof blocks), opened.number == PLAID_DECLINE_NONE_OPENS) \
+    c(OPEN, declined_14, given_blocks, open_at(&opened, ids, blocks, 1), opened.number == PLAID_DECLINE_BLOCKS) \
+    c(SEAL, sealed_most, given_sealing, seal_at(&sealed, sealing, payload, PLAID_PAYLOAD, out, sizeof out), sealed.length == 246) \
+    c(SEAL, sealed_least, given_sealing, seal_at(&sealed, sealing, payload, 0, out, sizeof out), sealed.length == 54) \
+    c(SEAL, declined_16, given_sealing, seal_at(&sealed, sealing, payload, 206, out, sizeof out), sealed.number == PLAID_DECLINE_PAYLOAD) \
+    c(SEAL, declined_17, given_sealing, seal_at(&sealed, sealing, payload, 0, out, 53), sealed.number == PLAID_DECLINE_SEAL_OUTPUT) \
+    c(ACCEPT, accepted_96, given_response, accepted = plaid_accept(accepting, response, 96, work, 96), accepted.length == PLAID_CARD_RECORD) \
+    c(ACCEPT, refused_96, given_wrong_response, accepted = plaid_accept(accepting, response, 96, work, 96), accepted.number == 20) \
+    c(ACCEPT, declined_18, given_response, accepted = plaid_accept(accepting, response, 33, work, 96), accepted.number == 18) \
+    c(ACCEPT, declined_19, given_response, accepted = plaid_accept(accepting, response, 96, work, 95), accepted.number == 19) \
+    c(RECORD, record_part, given_record, part = plaid_record(work, sizeof work, accepted), part.length == PLAID_CARD_RECORD) \
+    c(RECORD, record_none, given_no_record, part = plaid_record(work, sizeof work, accepted), part.length == 0)
+
+/*
+ * The painted stack
+ */
+
+/* The library calls these two. Here they take their return address and no more, whatever the C library's take. */
+void *memcpy(void *to, const void *from, size_t count)
+{
+    for (size_t i = 0; i < count; i++)
+        ((uint8_t *)to)[i] = ((const uint8_t *)from)[i];
+    return to;
+}
+
+void *memset(void *to, int value, size_t count)
+{
+    for (size_t i = 0; i < count; i++)
+        ((uint8_t *)to)[i] = (uint8_t)value;
+    return to;
+}
+
+#define STACK 65536
+static _Alignas(16) uint8_t stack[STACK];
+static ucontext_t here, there;
+static uint8_t *caller;         /* the caller's stack pointer before the arguments are laid */
+static void (*volatile to_call)(void);
+
+static uint8_t paint, *found;
+
+/* Makes the call, and finds the deepest byte that is not as painted: before anything else can write there. */
+static void on_the_stack(void)
+{
+    to_call();
+    uint8_t *at = stack;
+    while (*at == paint)
+        at++;
+    found = at;
+}
+
+static uint8_t *deepest(void (*call)(void), uint8_t painted)
+{
+    paint = painted;
+    memset(stack, paint, sizeof stack);
+    to_call = call;
+    getcontext(&there);
+    there.uc_stack.ss_sp = stack;
+    there.uc_stack.ss_size = sizeof stack;
+    there.uc_link = &here;
+    makecontext(&there, on_the_stack, 0);
+    swapcontext(&here, &there);
+    return found;
+}
+
+/* Twice, since a byte may be written as it was painted. */
+static size_t depth(void (*give)(void), void (*call)(void))
+{
+    give();
+    uint8_t *first = deepest(call, 0xA5);
+    give();
+    uint8_t *second = deepest(call, 0x5A);
+    return (size_t)(caller - (first < second ? first : second));
+}
+
+/* The function that makes a call does nothing else, so that its stack pointer is its frame's address until the arguments are laid. */
+#define c(function, label, give, call, test) \
+    static void call_##label(void) \
+    { \
+        caller = __builtin_frame_address(0); \
+        call; \
+    } \
+    static bool test_##label(void) { return test; }
+CALLS
+#undef c
+
+/*
+ * The figures
+ */
+
+#define NAMED(name, function, arguments) name,
+enum function { FUNCTIONS(NAMED) COUNT };
+#undef NAMED
+
+static const struct {
+    const char *name;
+    size_t figure, arguments;
+} functions[] = {
+#define FIGURE(name, function, arguments) {#function, PLAID_STACK_##name, arguments},
+    FUNCTIONS(FIGURE)
+#undef FIGURE
+};
+
+static const struct {
+    enum function of;
+    const char *label;
+    void (*give)(void);
+    void (*call)(void);
+    bool (*took)(void);
+} calls[] = {
+#define c(function, label, give, call, test) {function, #label, give, call_##label, test_##label},
+    CALLS
+#undef c
+};
+
+static unsigned passed, failed;
+
+static void check(bool ok, const char *name, const char *what)
+{
+    if (ok) {
+        passed++;
+        return;
+    }
+    failed++;
+    printf("%s: %s\n", name, what);
+}
+
+/* What a function reserves, as the words of the command line have it; 0 where they have nothing. */
+static size_t reserved(const char *name, char **words)
+{
+    for (; *words != NULL; words++)
+        if (strncmp(*words, name, strlen(name)) == 0 && (*words)[strlen(name)] == '=')
+            return strtoul(*words + strlen(name) + 1, NULL, 10);
+    return 0;
+}
+
+static size_t deepest_of(enum function of)
+{
+    size_t most = 0;
+    for (size_t i = 0; i < LENGTH(calls); i++) {
+        if (calls[i].of != of)
+            continue;
+        size_t bytes = depth(calls[i].give, calls[i].call);
+        check(calls[i].took(), calls[i].label, "the call took another path");
+        most = bytes > most ? bytes : most;
+    }
+    return most;
+}
+
+int main(int argc, char **argv)
+{
+    (void)argc;
+    for (size_t i = 0; i < COUNT; i++) {
+        const char *name = functions[i].name;
+        size_t figure = functions[i].figure, arguments = (functions[i].arguments + 15) / 16 * 16;
+        size_t written_to = deepest_of((enum function)i), frames = reserved(name, argv + 1);
+        check(written_to < STACK / 2, name, "the test's stack is too small");
+        check(written_to <= figure, name, "a call is deeper than the figure");
+        check(figure - figure / 5 <= written_to || figure < written_to + 16, name, "the figure is more than a quarter above the deepest call");
+        check(figure % 16 == 0, name, "the figure is no multiple of 16, as the stack is");
+        check(frames > 0, name, "the machine code was not read");
+        check(arguments + frames <= figure, name, "arguments and reserved bytes are more than the figure");
+        check(written_to <= arguments + frames, name, "a call is deeper than what the machine code reserves");
+        printf("%s: %zu bytes written to, %zu reserved, figure %zu\n", name, written_to, arguments + frames, figure);
+    }
+    printf("%u passed, %u failed\n", passed, failed);
+    return failed > 0;
+}
