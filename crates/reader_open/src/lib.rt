@@ -74,7 +74,7 @@ fn opens(b: &[u8], id: KeySetId) -> bool
     octets::both(formed(b), rest)
 }
 
-// The first that opens, of n; n where none does. Every block is examined.
+// The first that opens, of n; n where none does. Every block is examined, and each is as long as an initial answer.
 fn first(ids: [KeySetId; Reader::IDS], n: usize, blocks: &[u8]) -> usize
     requires { ⌜ (n ≤ 16) × (length (now blocks) ≡ 256 * n) ⌝ }
     ensures { λ r. ⌜ r ≡ winner ids n (now (blocks .entry)) ⌝ }
