@@ -29,14 +29,10 @@ function note_names(file, text,    name) {
 function note_definition(text,    file, cell) {
     file = file_of(text)
     split(text, cell, /\|/)
-    if (part == "Claims") claims++
+    if (part == "Claims") claim[file] = ++claims
     else definition[file] = 1
     if (cell[3] + 0 != lines[file]) fault(file ": the page says" cell[3] "lines, the file has " lines[file])
     total[part] += cell[3]
-    if (sub(/^ among laws: /, "", cell[4])) {
-        mixed[file] = 1
-        note_names(file, cell[4])
-    }
 }
 
 # Whether the page has a place for what a file cites: among the definitions, and among the structs.
@@ -72,14 +68,14 @@ part == "Structs and contracts" { contracts = contracts $0 }
 
 END {
     for (file in lines) if (times[file] != 1) fault(file ": on the page " times[file] + 0 " times")
-    sub(/In the conditions of the claims\n$/, "", sections)
     if (sections != wanted) fault("the sections of the definitions are not those of document 01, in its order")
     if (claims != 2) fault("there are " claims + 0 " claims, and not two")
     for (name in exported) if (!index(contracts, "`" name "`")) fault("the page does not name " name)
     check_cited("plaid/src/lib.rt")
+    for (file in claim) check_cited(file)
     for (file in definition) {
         count++
-        if (!(file in mixed)) check_cited(file)
+        check_cited(file)
         if (users[file] == "") fault(file ": a definition that nothing cites")
     }
     if (faults) exit 1

@@ -1,16 +1,14 @@
 -- DEMAND 3, one claim: "For every list of commands from a newly loaded card, at every place: length, status and the five counts equal document 01's
 -- formulas of frame, length and reply size; the work sum is the one document 01 defines; and two such lists on two such cards that agree where 01
--- says are alike in all that it says." Assumes nothing.
-use mathlib.Core.Path.{_≡_, ap, _∙_}
+-- says are alike in all that it says." `demand-3` of `Demand3Holds.antt` is its one theorem.
+use mathlib.Core.Path.{_≡_}
 use mathlib.Core.List.{List, _∷_, _++_, map}
 use lib.ListN.{length, getD}
 use Rattle.work.specs.Steps.{workSum}
 use Rattle.plaid_types.specs.Cards.{noSession}
 use Rattle.plaid_types.specs.declared.Outcome.{Outcome}
 use Rattle.card.specs.Lists.{Call, Shape, run, sessionAfter, stepsOf, shapeOf, formulasOf, Agree, AllAlike, Indistinct}
-use Rattle.card.specs.Demand3.{list-formulas, place, call-sum, lists-alike, lists-indistinct}
 use Rattle.claims.specs.Load.{Load, cardOf}
-use Rattle.claims.specs.Loaded.{is-a-load, sound}
 
 -- number, status, counts and answer length at each place of a list of commands on the card that a load returned
 abbrev pub shapes : Load → List Call → List Shape
@@ -31,13 +29,6 @@ pub record Demand3 (l : Load) : Type 0 where
   pub indistinct :
       (m : Load) → Agree (cardOf l) (cardOf m) → {xs ys : List Call} → AllAlike xs ys → Indistinct (cardOf l) (cardOf m) xs ys
 
-pub demand-3 : (l : Load) → Demand3 l
-demand-3 l =
-    record {
-      formulas = λ xs. list-formulas xs (cardOf l) (sound l);
-      sums =
-          λ xs ys x o. ap (λ (r : Outcome). r .sum) (place (cardOf l) xs ys x o (is-a-load l .no-session))
-          ∙ call-sum (cardOf l) (sessionAfter (cardOf l) noSession xs) x;
-      alike = λ m g a. lists-alike (cardOf l) (cardOf m) (sound l) (sound m) g a;
-      indistinct = λ m g a. lists-indistinct (cardOf l) (cardOf m) g a;
-    }
+-- the claim
+abbrev pub Demand3Claim : Type 0
+Demand3Claim = (l : Load) → Demand3 l

@@ -14,7 +14,7 @@ use Rattle.plaid_types.specs.Cards.{noSession, withSession}
 use Rattle.plaid_types.specs.declared.OpModeId.{OpModeId}
 use Rattle.plaid_types.specs.declared.Session.{Session}
 use Rattle.plaid_types.specs.declared.Card.{Card}
-use Rattle.load.specs.Laws.{pastSet, pastMode}
+use Rattle.load.specs.Load.{pastSet, pastMode}
 use Rattle.card.specs.Lists.{Call, outcomeOf, bytesOf, accepted}
 use Rattle.reader_seal.specs.Seal.{sealedOf, sealOutput}
 use Rattle.reader_seal.specs.declared.Sealed.{Sealed}

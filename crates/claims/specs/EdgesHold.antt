@@ -21,8 +21,8 @@ use Rattle.plaid_types.specs.declared.KeySetSlot.{KeySetSlot}
 use Rattle.plaid_types.specs.declared.ModeSlot.{ModeSlot}
 use Rattle.plaid_types.specs.declared.Session.{Session}
 use Rattle.plaid_types.specs.declared.Card.{Card}
-use Rattle.load.specs.Load.{modeSlot, replySize, refusal, modesRefusal, loaded}
-use Rattle.load.specs.Laws.{pastMode, modeAt, stocked-session}
+use Rattle.load.specs.Load.{pastMode, modeSlot, replySize, refusal, modesRefusal, loaded}
+use Rattle.load.specs.Laws.{modeAt, stocked-session}
 use Rattle.frame.specs.Frame.{frameOf, initialIns, insOf, lcOf, whole, statusOf, dataOf}
 use Rattle.frame.specs.Laws.{frame-byte}
 use Rattle.frame.specs.Declines.{noZero, padBytes, verdict}

@@ -1,11 +1,13 @@
 pub mod Load
-pub mod Loaded
 pub mod Demand3
+pub mod Session
+pub mod Edges
+pub mod Loaded
+pub mod Demand3Holds
 pub mod Kept
 pub mod Reply
 pub mod Found
-pub mod Session
+pub mod SessionHolds
 pub mod Loads
 pub mod Witness
-pub mod Edges
 pub mod EdgesHold

@@ -6,7 +6,7 @@ use lib.ListN.{length, getD}
 use Rattle.octets.specs.Bytes.{Bytes, Block}
 use Rattle.plaid_types.specs.declared.KeySet.{KeySet}
 use Rattle.plaid_types.specs.declared.Card.{Card}
-use Rattle.load.specs.Laws.{pastSet}
+use Rattle.load.specs.Load.{pastSet}
 use Rattle.plaid.specs.Interface.{loadOf}
 use Rattle.plaid.specs.declared.Given.{Given}
 

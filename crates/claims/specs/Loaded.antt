@@ -16,8 +16,8 @@ use Rattle.plaid_types.specs.declared.KeySet.{KeySet}
 use Rattle.plaid_types.specs.declared.Mode.{Mode}
 use Rattle.plaid_types.specs.declared.Session.{Session}
 use Rattle.plaid_types.specs.declared.Card.{Card}
-use Rattle.load.specs.Load.{refusal, badRecord, filled, setSlot, modeSlot, loadedCard, blankCard, loaded}
-use Rattle.load.specs.Laws.{pastSet, pastMode, neither, some-none, Accepted, accepted, setAt, modeAt, set-held, mode-held, set-given, mode-given, IsLoaded, is-loaded, load-made}
+use Rattle.load.specs.Load.{pastSet, pastMode, refusal, badRecord, filled, setSlot, modeSlot, loadedCard, blankCard, loaded}
+use Rattle.load.specs.Laws.{neither, some-none, Accepted, accepted, setAt, modeAt, set-held, mode-held, set-given, mode-given, IsLoaded, is-loaded, load-made}
 use Rattle.load.specs.declared.Loaded.{Loaded}
 use Rattle.card.specs.Demand3.{Sound}
 use Rattle.plaid.specs.Interface.{loadOf}

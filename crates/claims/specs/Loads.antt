@@ -7,7 +7,7 @@ use lib.ListN.{length, getD, replicate}
 use Rattle.octets.specs.Bytes.{Bytes, Block}
 use Rattle.octets.specs.ByteLists.{append-bytes}
 use Rattle.plaid_types.specs.declared.KeySet.{KeySet}
-use Rattle.load.specs.Laws.{pastSet, pastMode}
+use Rattle.load.specs.Load.{pastSet, pastMode}
 use Rattle.plaid.specs.Interface.{loadOf}
 use Rattle.plaid.specs.declared.Given.{Given}
 use Rattle.claims.specs.Load.{Load, Typed}

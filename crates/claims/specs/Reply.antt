@@ -15,8 +15,8 @@ use Rattle.frame.specs.Frame.{frameOf, dataOf}
 use Rattle.frame.specs.Laws.{passed}
 use Rattle.plaid_types.specs.declared.ModeSlot.{ModeSlot}
 use Rattle.plaid_types.specs.declared.Card.{Card}
-use Rattle.load.specs.Load.{modeSlot}
-use Rattle.load.specs.Laws.{pastMode, modeAt}
+use Rattle.load.specs.Load.{pastMode, modeSlot}
+use Rattle.load.specs.Laws.{modeAt}
 use Rattle.final_command.specs.Final.{textOf, keysHash, opMode, modeOf, acceptsFinal, finalReply}
 use Rattle.card.specs.Command.{verdictOn, replyTo, answerBytes}
 use Rattle.card.specs.Lists.{Call, cardAfter, bytesOf, isDeclined, isInitial, accepted}

@@ -15,8 +15,7 @@ use Rattle.plaid_types.specs.declared.KeySetId.{KeySetId}
 use Rattle.plaid_types.specs.declared.Card.{Card}
 use Rattle.frame.specs.Frame.{frameOf, whole, statusOf, dataOf}
 use Rattle.frame.specs.Declines.{padBytes, noZero, verdict}
-use Rattle.load.specs.Load.{refusal, modesRefusal, loadedCard, loaded, filled}
-use Rattle.load.specs.Laws.{pastSet}
+use Rattle.load.specs.Load.{pastSet, refusal, modesRefusal, loadedCard, loaded, filled}
 use Rattle.card.specs.Command.{replyTo, done, undone, verdictOn, outcome, answerBytes}
 use Rattle.card.specs.Lists.{Call, cardAfter, Agree, none, more}
 use Rattle.reader_list.specs.List.{listNumber, listed, listOutput, listCommand}
@@ -31,8 +30,10 @@ use Rattle.reader_accept.specs.Laws.{known}
 use Rattle.plaid.specs.Interface.{loadOf}
 use Rattle.claims.specs.Load.{Load, cardOf}
 use Rattle.claims.specs.Loads.{block-of, set, given, area, load-of, two-keys}
-use Rattle.claims.specs.Demand3.{demand-3, shapes}
-use Rattle.claims.specs.Session.{Exchange, Conditions, answer₁, returned, session-promise}
+use Rattle.claims.specs.Demand3.{shapes}
+use Rattle.claims.specs.Demand3Holds.{demand-3}
+use Rattle.claims.specs.Session.{Exchange, Conditions, answer₁, returned}
+use Rattle.claims.specs.SessionHolds.{session-promise}
 
 -- a call whose platform lends what it should gets no number, whatever the command
 module _ (c : Card) (cmd fresh : List ℕ) (room : ℕ) (lf : length fresh ≡ 253) (nz : noZero (padBytes fresh) ≡ true) (h : 256 ≤ room) where

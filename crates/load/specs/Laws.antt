@@ -16,15 +16,8 @@ use Rattle.plaid_types.specs.declared.Mode.{Mode}
 use Rattle.plaid_types.specs.declared.ModeSlot.{ModeSlot}
 use Rattle.plaid_types.specs.declared.Session.{Session}
 use Rattle.plaid_types.specs.declared.Card.{Card}
-use Rattle.load.specs.Load.{some, miscounted, repeated, setIds, modeIds, withHandle, badRecord, replySize, firstSize, unequal}
+use Rattle.load.specs.Load.{pastSet, pastMode, some, miscounted, repeated, setIds, modeIds, withHandle, badRecord, replySize, firstSize, unequal}
 use Rattle.load.specs.Load.{modesRefusal, refusal, filled, setSlot, modeSlot, loadedCard, blankCard, loaded}
-
--- what a list of key sets or of modes gives past its end
-abbrev pub pastSet : KeySet
-pastSet = record { id = record { 0 = 0 }; handle = 0; «fa_key» = [] }
-
-abbrev pub pastMode : Mode
-pastMode = record { id = record { 0 = 0 }; start = 0; len = 0 }
 
 -- the reply size of the first mode
 pub first-size : (l : List Mode) (n : ℕ) → 0 < n → 0 < length l → firstSize (take n l) ≡ replySize (getD l 0 pastMode .len)

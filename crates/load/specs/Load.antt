@@ -13,6 +13,13 @@ use Rattle.plaid_types.specs.declared.ModeSlot.{ModeSlot}
 use Rattle.plaid_types.specs.declared.Card.{Card}
 use Rattle.load.specs.declared.Loaded.{Loaded}
 
+-- what a list of key sets or of modes gives past its end
+abbrev pub pastSet : KeySet
+pastSet = record { id = record { 0 = 0 }; handle = 0; «fa_key» = [] }
+
+abbrev pub pastMode : Mode
+pastMode = record { id = record { 0 = 0 }; start = 0; len = 0 }
+
 -- whether p holds of some element
 abbrev pub some : {A : Type 0} → (A → Bool) → List A → Bool
 some p [] = false

@@ -3,8 +3,7 @@ use Prim.Native.Nat.{_-_}
 use mathlib.Core.Path.{_≡_, ap, _∙_}
 use mathlib.Core.Bool.{Bool, _||_}
 use lib.ListN.{take, drop}
-use Rattle.load.specs.Load.{some, badRecord}
-use Rattle.load.specs.Laws.{pastMode}
+use Rattle.load.specs.Load.{pastMode, some, badRecord}
 use Rattle.load.proofs.Turns.{some-turn, some-done}
 use borrow.Author.Needs.{needs}
 use Rattle.load.proofs.bad_records.Statement.{statement}

@@ -3,8 +3,7 @@ use Prim.Native.Nat.{_-_}
 use mathlib.Core.Path.{_≡_}
 use mathlib.Core.Bool.{_||_}
 use lib.ListN.{take, drop}
-use Rattle.load.specs.Load.{withHandle}
-use Rattle.load.specs.Laws.{pastSet}
+use Rattle.load.specs.Load.{pastSet, withHandle}
 use Rattle.load.proofs.Turns.{some-turn, some-done}
 use borrow.Author.Needs.{needs}
 use Rattle.load.proofs.has_handle.Statement.{statement}

@@ -5,8 +5,7 @@ use native.Mathlib.Omega.{arith}
 use lib.Seq.{paste, paste-zero}
 use lib.ListN.{length, replicate, length-map, List·getD-map}
 use Rattle.plaid_types.specs.declared.Mode.{Mode}
-use Rattle.load.specs.Load.{modeIds}
-use Rattle.load.specs.Laws.{pastMode}
+use Rattle.load.specs.Load.{pastMode, modeIds}
 use Rattle.load.proofs.Turns.{copy-turn, copy-all}
 use borrow.Author.Needs.{needs}
 use Rattle.load.proofs.mode_ids.Statement.{statement}

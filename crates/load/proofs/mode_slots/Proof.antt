@@ -6,8 +6,8 @@ use lib.Seq.{paste, paste-zero}
 use mathlib.Core.List.{map}
 use lib.ListN.{length, take, length-map, List·getD-map}
 use Rattle.plaid_types.specs.Cards.{noMode}
-use Rattle.load.specs.Load.{filled, modeSlot}
-use Rattle.load.specs.Laws.{pastMode, map-take}
+use Rattle.load.specs.Load.{pastMode, filled, modeSlot}
+use Rattle.load.specs.Laws.{map-take}
 use Rattle.load.proofs.Turns.{copy-turn, copy-filled}
 use borrow.Author.Needs.{needs}
 use Rattle.load.proofs.mode_slots.Statement.{statement}

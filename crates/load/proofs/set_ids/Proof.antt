@@ -5,8 +5,7 @@ use native.Mathlib.Omega.{arith}
 use lib.Seq.{paste, paste-zero}
 use lib.ListN.{length, replicate, length-map, List·getD-map}
 use Rattle.plaid_types.specs.declared.KeySet.{KeySet}
-use Rattle.load.specs.Load.{setIds}
-use Rattle.load.specs.Laws.{pastSet}
+use Rattle.load.specs.Load.{pastSet, setIds}
 use Rattle.load.proofs.Turns.{copy-turn, copy-all}
 use borrow.Author.Needs.{needs}
 use Rattle.load.proofs.set_ids.Statement.{statement}

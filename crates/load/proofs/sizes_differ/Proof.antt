@@ -4,8 +4,8 @@ use mathlib.Core.Path.{_≡_, refl, sym, ap₂, _∙_}
 use mathlib.Core.Bool.{_||_, not}
 use lib.ListN.{take, drop}
 use lib.Dec.{eqb}
-use Rattle.load.specs.Load.{some, unequal, replySize, firstSize}
-use Rattle.load.specs.Laws.{pastMode, first-size}
+use Rattle.load.specs.Load.{pastMode, some, unequal, replySize, firstSize}
+use Rattle.load.specs.Laws.{first-size}
 use Rattle.load.proofs.Turns.{some-turn, some-done}
 use borrow.Author.Needs.{needs}
 use Rattle.load.proofs.sizes_differ.Statement.{statement}

@@ -1,0 +1,204 @@
+-- The session promise holds. Assumes nothing.
+use mathlib.Core.Path.{_≡_, refl, sym, ap, ap₂, _∙_, subst}
+use mathlib.Core.Bool.{Bool, true, false}
+use mathlib.Core.List.{List}
+use Prim.Native.Nat.{ℕ, _<_, _≤_}
+use native.Mathlib.Omega.{arith}
+use lib.Dec.{ltb}
+use lib.ListN.{length, getD, take, List·getD-map, List·getD-eq-default}
+use lib.Seq.{getD-take, length-take-le}
+use borrow.Author.Tests.{ltb-true, ltb-false}
+use Rattle.octets.specs.Bytes.{Bytes}
+use Rattle.octets.specs.Lists.{part}
+use Rattle.plaid_types.specs.declared.KeySetId.{KeySetId}
+use Rattle.plaid_types.specs.declared.KeySetSlot.{KeySetSlot}
+use Rattle.plaid_types.specs.declared.Mode.{Mode}
+use Rattle.plaid_types.specs.declared.ModeSlot.{ModeSlot}
+use Rattle.plaid_types.specs.declared.Card.{Card}
+use Rattle.load.specs.Load.{pastSet, pastMode, some, setSlot, modeSlot}
+use Rattle.load.specs.Laws.{map-take, setAt, modeAt, Stocked}
+use Rattle.list.specs.Encoding.{encoded}
+use Rattle.initial.specs.Initial.{slotOf}
+use Rattle.final_command.specs.Final.{firstMode}
+use Rattle.card.specs.Command.{outcome, answerBytes}
+use Rattle.reader_list.specs.List.{numbers, given, listCommand, listed}
+use Rattle.reader_open.specs.Open.{noId, blockAt}
+use Rattle.reader_seal.specs.Seal.{keysHashOf, sealCommand}
+use Rattle.reader_accept.specs.Accept.{acceptedOf, workAfter, recordPart}
+use Rattle.reader_accept.specs.declared.Accepted.{Accepted}
+use Rattle.session_initial.specs.Held.{held, firstHeld, Holds}
+use Rattle.session_initial.specs.Answered.{list-slot}
+use Rattle.session_final.specs.SealReply.{sealedSlot}
+use Rattle.session.specs.Promise as promise
+use Rattle.claims.specs.Load.{cardOf}
+use Rattle.claims.specs.Loaded.{set-slot, slot-given, sets-most, mode-slot, mode-below, record-given, div-given, area-bytes}
+use Rattle.claims.specs.Kept.{Kept, kept}
+use Rattle.claims.specs.Found.{listed-held, place-is, slot-unique, mode-found, mode-is, list-number, list-sent, seal-hash, seal-sent}
+use Rattle.claims.specs.Session.{Exchange, Conditions, Promised, SessionPromise, card, command₁, outcome₁, open₁, seal, command₂, answer₂, accept}
+
+-- what the promise on a stocked card asks, from the claim's conditions
+module _ (e : Exchange) (k : Conditions e) where
+  kp : Kept (e .load) (card e)
+  kp = kept (e .load) (e .before)
+
+  g : Stocked (card e)
+  g = kp .stocked
+
+  -- the KeySetIDs listed
+  ids : List KeySetId
+  ids = take (e .count) (e .ids)
+
+  range : (1 ≤ e .count) × (e .count ≤ 16)
+  range = promise.listing (e .ids) (e .count) (length (e .listOut)) (list-number (e .ids) (e .count) (e .listOut) (k .list-done))
+
+  ids-are : length ids ≡ e .count
+  unfolding ids
+  ids-are = length-take-le (e .count) (e .ids) (omega (arith, k .ids-long, range .1))
+
+  id-at : (i : ℕ) → i < e .count → getD ids i noId ≡ getD (e .ids) i noId
+  unfolding ids
+  id-at i h = getD-take (e .count) (e .ids) i noId h
+
+  numbers-are : numbers ids ≡ given (e .ids) (e .count)
+  unfolding ids
+  numbers-are = sym (map-take (λ (x : KeySetId). x .0) (e .count) (e .ids))
+
+  id-small : (i : ℕ) → getD (numbers ids) i 0 < 65536
+  id-small i = rw (List·getD-map (λ (x : KeySetId). x .0) ids i noId) (by (ltb i (e .count)) refl)
+    where
+      by : (t : Bool) → ltb i (e .count) ≡ t → getD ids i noId .0 < 65536
+      by true q = rw (id-at i (ltb-true i (e .count) q)) (k .ids-small i)
+      by false q = rw (List·getD-eq-default ids noId {n = i} (omega (arith, ids-are, ltb-false i (e .count) q))) (omega arith)
+
+  -- the first listed set that the (card e) holds
+  slot-is : setAt (card e) (k .set) ≡ setSlot (getD (e .load .sets) (k .set) pastSet)
+  slot-is = ap (λ (x : Card). setAt x (k .set)) (kp .same) ∙ set-slot (e .load) (k .set) (k .set-loaded)
+
+  slot-id : setAt (card e) (k .set) .id ≡ getD ids (k .place) noId
+  slot-id = ap (λ (s : KeySetSlot). s .id) slot-is ∙ k .same-id ∙ sym (id-at (k .place) (k .place-listed))
+
+  slot-held : setAt (card e) (k .set) .held ≡ true
+  slot-held = ap (λ (s : KeySetSlot). s .held) slot-is
+
+  below : k .set < 8
+  below = omega (arith, k .set-loaded, sets-most (e .load))
+
+  none-held : (i m : ℕ) → i < k .place → setAt (card e) m .held ≡ true → setAt (card e) m .id ≡ getD ids i noId → ⊥
+  none-held i m h a b =
+      let w : setAt (card e) m ≡ setAt (cardOf (e .load)) m = ap (λ (x : Card). setAt x m) (kp .same) in
+      let j : m < length (e .load .sets) = slot-given (e .load) m (sym (ap (λ (s : KeySetSlot). s .held) w) ∙ a) in
+      k .none-earlier i m h j
+      (sym (ap (λ (s : KeySetSlot). s .id) (w ∙ set-slot (e .load) m j)) ∙ b ∙ id-at i (omega (arith, k .place-listed)))
+
+  some-held : some (held (card e)) ids ≡ true
+  some-held = listed-held (card e) g ids (k .place) (k .set) (omega (arith, ids-are, k .place-listed)) below slot-held slot-id none-held
+
+  first-is : firstHeld (card e) ids ≡ k .place
+  first-is = place-is (card e) g ids (k .place) (k .set) (omega (arith, ids-are, k .place-listed)) below slot-held slot-id none-held
+
+  found-slot : slotOf (card e) (encoded (numbers ids)) ≡ k .set
+  found-slot =
+      slot-unique (card e) g (getD ids (k .place) noId)
+      (subst (λ (m : ℕ). Holds (card e .sets) (slotOf (card e) (encoded (numbers ids))) (getD ids m noId)) first-is (list-slot (card e) g ids (omega (arith, ids-are, range .1)) some-held))
+      (record { below = below; kept = slot-held; id = slot-id })
+
+  key-is : setAt (card e) (slotOf (card e) (encoded (given (e .ids) (e .count)))) .«fa_key» ≡ e .faKey
+  key-is = sym (ap (λ (s : List ℕ). setAt (card e) (slotOf (card e) (encoded s)) .«fa_key») numbers-are) ∙ ap (λ (j : ℕ). setAt (card e) j .«fa_key») found-slot ∙ ap (λ (s : KeySetSlot). s .«fa_key») slot-is ∙ k .same-key
+
+  -- the mode
+  mode-slot-is : modeAt (card e) (k .at) ≡ modeSlot (getD (e .load .given .modes) (k .at) pastMode)
+  mode-slot-is = ap (λ (x : Card). modeAt x (k .at)) (kp .same) ∙ mode-slot (e .load) (k .at) (k .mode-loaded)
+
+  mode-id : modeAt (card e) (k .at) .id ≡ e .mode
+  mode-id = ap (λ (s : ModeSlot). s .id) mode-slot-is ∙ k .same-mode
+
+  mode-held : firstMode 0 (e .mode) (card e .modes) < 16
+  mode-held = mode-found (card e) g (e .mode) (k .at) (mode-below (e .load) (k .at) (k .mode-loaded)) (ap (λ (s : ModeSlot). s .held) mode-slot-is) mode-id
+
+  sealed-slot : sealedSlot (card e) (e .mode) ≡ modeSlot (getD (e .load .given .modes) (k .at) pastMode)
+  sealed-slot =
+      ap (modeAt (card e))
+      (mode-is (card e) g (e .mode) (k .at) (mode-below (e .load) (k .at) (k .mode-loaded)) (ap (λ (s : ModeSlot). s .held) mode-slot-is) mode-id)
+      ∙ mode-slot-is
+
+  -- the commands are List's and Seal's
+  cmd₁ : List ℕ
+  cmd₁ = listCommand (given (e .ids) (e .count))
+
+  sent₁ : (command₁ e) ≡ cmd₁
+  unfolding cmd₁
+  sent₁ = list-sent (e .ids) (e .count) (e .listOut) (k .list-done)
+
+  cmd₂ : List ℕ
+  cmd₂ = sealCommand (e .faKey) (open₁ e .«div_data») (open₁ e .rnd1) (e .rnd2) (e .mode) (e .payload)
+
+  sent₂ : (command₂ e) ≡ cmd₂
+  unfolding cmd₂
+  sent₂ = seal-sent (e .faKey) (open₁ e .«div_data») (open₁ e .rnd1) (e .rnd2) (e .mode) (e .payload) (e .sealOut) (k .seal-done)
+
+  hash-is : seal e .«keys_hash» ≡ keysHashOf (open₁ e .rnd1) (e .rnd2)
+  hash-is = seal-hash (e .faKey) (open₁ e .«div_data») (open₁ e .rnd1) (e .rnd2) (e .mode) (e .payload) (e .sealOut) (k .seal-done)
+
+  next : Card
+  next = outcome (card e) cmd₁ (e .fresh₁) (e .room₁) .card
+
+  next-is : outcome₁ e .card ≡ next
+  unfolding next
+  next-is = ap (λ (x : List ℕ). outcome (card e) x (e .fresh₁) (e .room₁) .card) sent₁
+
+  answer-is : (answer₂ e) ≡ answerBytes next cmd₂ (e .fresh₂) (e .room₂)
+  answer-is = ap₂ (λ (x : Card) (y : List ℕ). answerBytes x y (e .fresh₂) (e .room₂)) next-is sent₂
+
+  accept-is : (accept e) ≡ acceptedOf (keysHashOf (open₁ e .rnd1) (e .rnd2)) (open₁ e .«div_data») (answerBytes next cmd₂ (e .fresh₂) (e .room₂)) (length (e .work))
+  accept-is = ap₂ (λ (h a : List ℕ). acceptedOf h (open₁ e .«div_data») a (length (e .work))) hash-is answer-is
+
+  conditions : promise.Conditions (card e) (e .ids) (e .count) (e .fresh₁) (e .room₁) (e .blocks) (e .faKey) (e .rnd2) (e .payload) (e .mode) (e .fresh₂) (e .room₂) (e .work)
+  unfolding ids cmd₁ cmd₂ next
+  conditions =
+      record {
+        stocked = g;
+        list-room = length (e .listOut);
+        list-made = list-number (e .ids) (e .count) (e .listOut) (k .list-done);
+        first-call = sym (ap (λ (x : List ℕ). outcome (card e) x (e .fresh₁) (e .room₁) .answer .number) sent₁) ∙ k .first-done;
+        not-14 = k .open-done;
+        second-call = sym (ap₂ (λ (x : Card) (y : List ℕ). outcome x y (e .fresh₂) (e .room₂) .answer .number) next-is sent₂) ∙ k .second-done;
+        not-19 = λ q. k .accept-done (ap (λ (a : Accepted). a .number) accept-is ∙ q);
+        some-held = some-held;
+        same-key = key-is;
+        decrypted = ap (blockAt (e .blocks)) first-is ∙ k .decrypted ∙ ap (λ (x : List ℕ). answerBytes (card e) x (e .fresh₁) (e .room₁)) sent₁;
+        no-earlier = λ i h. k .none-opens i (omega (arith, first-is));
+        mode-held = mode-held;
+        ids-long = k .ids-long;
+        ids-small = λ i. subst (λ (s : List ℕ). getD s i 0 < 65536) numbers-are (id-small i);
+        mode-small = k .mode-small;
+        div-bytes = subst (λ (d : List ℕ). Bytes d) (sym (ap (λ (x : Card). x .«div_data») (kp .same) ∙ div-given (e .load))) (e .load .typed .div .byte);
+        area-bytes = subst (λ (d : List ℕ). Bytes d) (sym (ap (λ (x : Card). x .area) (kp .same))) (area-bytes (e .load));
+        key-bytes = subst (λ (d : List ℕ). Bytes d) (k .same-key) (e .load .typed .keys (k .set) (k .set-loaded) .byte);
+        rnd2-block = k .rnd2-block;
+        payload-bytes = k .payload-bytes;
+      }
+
+  numbered : (accept e) ≡ record { number = 0; length = sealedSlot (card e) (e .mode) .len }
+  unfolding ids cmd₁ cmd₂ next
+  numbered =
+      accept-is
+      ∙ promise.session-number (card e) (e .ids) (e .count) (e .fresh₁) (e .room₁) (e .blocks) (e .faKey) (e .rnd2) (e .payload) (e .mode) (e .fresh₂) (e .room₂) (e .work) conditions
+
+  promised : Promised e k
+  unfolding ids cmd₁ cmd₂ next
+  promised =
+      let m : Mode = getD (e .load .given .modes) (k .at) pastMode in
+      record {
+        number = ap (λ (a : Accepted). a .number) numbered;
+        record-length = ap (λ (a : Accepted). a .length) numbered ∙ ap (λ (s : ModeSlot). s .len) sealed-slot;
+        record-returned =
+            ap₂ (λ (h a : List ℕ). recordPart (workAfter h (open₁ e .«div_data») a (e .work)) (acceptedOf h (open₁ e .«div_data») a (length (e .work)))) hash-is answer-is
+            ∙ promise.session-record (card e) (e .ids) (e .count) (e .fresh₁) (e .room₁) (e .blocks) (e .faKey) (e .rnd2) (e .payload) (e .mode) (e .fresh₂) (e .room₂) (e .work) conditions
+            ∙ ap (λ (s : ModeSlot). part (card e .area) (s .start) (s .len)) sealed-slot
+            ∙ ap (λ (a : List ℕ). part a (m .start) (m .len)) (ap (λ (x : Card). x .area) (kp .same))
+            ∙ record-given (e .load) (k .at) (k .mode-loaded);
+      }
+
+-- THE SESSION PROMISE
+pub session-promise : SessionPromise
+session-promise e k = promised e k
