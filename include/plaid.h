@@ -556,7 +556,9 @@ typedef struct plaid_accepted {
  * work buffer; plaid_record says which. Take it out only where number is 0.
  *
  * Declines, in the order in which they are tested:
- *   18  response_len is not 32, 48, 64, 80 or 96
+ *   18  response_len is not 32, 48, 64, 80 or 96. To the reader a failed
+ *       authentication like 20: another maker's card may refuse with an
+ *       answer of any length
  *   19  work_len is below response_len
  *   20  not authenticated: padding, record length or DivData is wrong, one
  *       number for all. The card refused, or is another, or the answer was

@@ -1,4 +1,4 @@
-//! Reads lines in the form of the published transcripts from standard input, runs each on the proved library, and writes it again with
+//! Reads lines in the form of the transcripts from standard input, runs each on the proved library, and writes it again with
 //! the result that the library gives. What stands behind `=>` is not looked at.
 //!
 //! A `load` line starts a new card; each `call` line gets the card as the call before left it. The output buffer is filled before a call,

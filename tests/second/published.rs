@@ -1,4 +1,4 @@
-//! The second implementation on the published transcripts: every field of every line.
+//! The second implementation on the transcripts: every field of every line.
 
 use crate::compare::see;
 use crate::fault::Fault;

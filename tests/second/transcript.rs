@@ -1,4 +1,4 @@
-//! Prints and parses lines in the form of the published transcripts: `word=value`, and the result behind `=>`.
+//! Prints and parses lines in the form of the transcripts: `word=value`, and the result behind `=>`.
 
 use std::fmt::Display;
 
