@@ -74,7 +74,7 @@
  *   key handle. The platform encrypts the block by the public RSA key that the
  *   handle names, adds no padding of its own, and sends the 256 bytes that
  *   result. It never sends the block itself. It does the same for the shill
- *   handle.
+ *   handle. Where RSA fails it answers status 6F00, with no bytes before it.
  *
  *   RSA in the reader. The platform decrypts the card's 256 bytes once for
  *   each listed key set, with that set's private key. It takes no padding off

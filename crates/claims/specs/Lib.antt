@@ -6,6 +6,7 @@ pub mod Loaded
 pub mod Demand3Holds
 pub mod Kept
 pub mod Reply
+pub mod Sealed
 pub mod Found
 pub mod SessionHolds
 pub mod Loads

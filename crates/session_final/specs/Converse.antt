@@ -251,7 +251,7 @@ framed-again cmd k i =
       sym (frame-last cmd (omega arith)) ∙ k .le,
     )
 
-data-bytes : (cmd : List ℕ) → Bytes cmd → Bytes (dataOf cmd)
+pub data-bytes : (cmd : List ℕ) → Bytes cmd → Bytes (dataOf cmd)
 unfolding dataOf
 data-bytes cmd h = part-bytes cmd 5 (length cmd - 6) h
 
