@@ -14,7 +14,8 @@
  *                                 has decrypted the block for each listed set
  *   reader        plaid_seal      makes the final command for one mode
  *   card          plaid_command   answers with the mode's record, enciphered
- *   reader        plaid_accept    checks the answer and deciphers it
+ *   reader        plaid_accept    checks the answer and deciphers it, told how
+ *                                 long that mode's record is
  *   reader        plaid_record    says where the record stands
  *
  * To a stranger a card never refuses. A refused command is answered like an
@@ -159,12 +160,12 @@ typedef char plaid_size_is_64_bits[sizeof(size_t) == 8 ? 1 : -1];
  * the library's machine code reserves, written or not, in its deepest chain
  * of calls. It is the greater of the two, in whole sixteens.
  */
-#define PLAID_STACK_LOAD 5280
+#define PLAID_STACK_LOAD 5232
 #define PLAID_STACK_COMMAND 8752
 #define PLAID_STACK_LIST 144
 #define PLAID_STACK_OPEN 160
 #define PLAID_STACK_SEAL 1264
-#define PLAID_STACK_ACCEPT 944
+#define PLAID_STACK_ACCEPT 976
 #define PLAID_STACK_RECORD 16
 
 /*
@@ -189,7 +190,8 @@ typedef char plaid_size_is_64_bits[sizeof(size_t) == 8 ? 1 : -1];
 #define PLAID_DECLINE_MODE_REPEATED 5     /* two modes with one OpModeID */
 #define PLAID_DECLINE_RECORD 6            /* area over 1024, or a record that
                                              is empty, over 64 or outside it */
-#define PLAID_DECLINE_REPLY_SIZE 7        /* records of unequal reply size */
+/* 7 was given before, to records of unequal reply size. It is not given any
+   more, and its number is not used for anything else. */
 /* plaid_command */
 #define PLAID_DECLINE_FRESH_COUNT 8       /* not 253 fresh bytes */
 #define PLAID_DECLINE_PAD_BYTE 9          /* a pad byte is 0 */
@@ -287,7 +289,7 @@ typedef struct plaid_card {
 } plaid_card;
 
 typedef struct plaid_loaded {
-    uint8_t number;                     /* 0, or 1 to 7 */
+    uint8_t number;                     /* 0, or 1 to 6 */
     plaid_card card;
 } plaid_loaded;
 
@@ -301,8 +303,9 @@ typedef struct plaid_loaded {
  *
  * Back: number 0 and the card. Its key sets and modes fill their slots from
  * the first on, in the order given. The area is copied into it, with zeros
- * behind. Its reply size is B = floor((record length + 16) / 16) + 1, from 2
- * to 6, the same for all of its records. It has no session.
+ * behind. Its reply size B is the largest that any of its records needs, from
+ * 2 to 6; a record needs floor((record length + 16) / 16) + 1. It has no
+ * session.
  *
  * Declines, in the order in which they are tested:
  *    1  set_count is 0, or over 8
@@ -312,8 +315,22 @@ typedef struct plaid_loaded {
  *    5  two modes have the same OpModeID
  *    6  the area is over 1024 bytes; or a record is empty, over 64 bytes, or
  *       not wholly inside the area
- *    7  two records have unequal B
- * No card results: all fields of `card` are 0. Do not use it as one.
+ * No card results: all fields of `card` are 0. Do not use it as one. There is
+ * no 7 any more: it was given where two records have unequal B. Such a load is
+ * now accepted, and the number is not used for anything else.
+ *
+ * Records of unequal length. Every final answer of a card has 16 B bytes: its
+ * length does not tell which record it carries. In the answer a record of under
+ * 16 (B - 2) bytes is followed by filler, zero bytes up to 16 (B - 2) bytes in
+ * all; any other by none. The card adds the filler, the area has none of it.
+ *   With 4 bytes (a Wiegand number) and 16 bytes (a UUID) on one card B is 3:
+ *   the 4 bytes are answered with 12 zeros behind them, the UUID as it is.
+ *   Alone on a card, the 4 bytes have B = 2 and no filler.
+ * Nothing in the answer says where the record ends. Our reader is told (see
+ * plaid_accept). A relay with another maker's reader gets 4 bytes and 12 zeros
+ * from such a card, since ISO/IEC 25185-1 (6.7) allows a payload behind the
+ * record and has no mark between the two. See to it that it takes the 4 bytes,
+ * or load a card for it whose records need no filler.
  *
  * FAKeys are given undiversified. The card diversifies them by its DivData in
  * each final command, so whoever reads out a card has the FAKeys of its sets,
@@ -404,7 +421,8 @@ typedef struct plaid_outcome {
  * Final command (INS 86). The data is STR2 as plaid_seal writes it.
  *   length 16 B, status 9000, handle 0: nothing to encrypt, the output is sent
  *   as it is.
- *   accepted: record, DivData and padding, by CBC under KeysHash.
+ *   accepted: record, filler (see plaid_load), DivData and padding, by CBC
+ *       under KeysHash. B blocks, whichever record it is.
  *   refused: the first 16 B fresh bytes, by CBC under the shill key.
  *   The session closes either way. A payload is checked with the rest and not
  *   used.
@@ -539,6 +557,7 @@ plaid_sealed plaid_seal(plaid_sealing of,
 typedef struct plaid_accepting {
     uint8_t keys_hash[PLAID_KEYS_HASH]; /* as Seal gave it */
     uint8_t div_data[PLAID_DIV_DATA];   /* as Open gave it */
+    size_t record_length;               /* of the mode's record; any number */
 } plaid_accepting;
 
 typedef struct plaid_accepted {
@@ -549,24 +568,37 @@ typedef struct plaid_accepted {
 /*
  * Accept: checks a card's answer to the final command, and gives the record.
  *
- * In: the answer without its status, 32, 48, 64, 80 or 96 bytes; and a work
- * buffer at least as long.
+ * In: the answer without its status, 32, 48, 64, 80 or 96 bytes; a work buffer
+ * at least as long; and in record_length how long the record is on the card, of
+ * the mode that Seal asked for. Any record_length is taken, and one that no
+ * answer can have is declined.
  *
- * Back: number 0 and the record's length, 1 to 64. The record is a part of the
- * work buffer; plaid_record says which. Take it out only where number is 0.
+ * Back: number 0 and the record's length, 1 to 64, which is record_length. The
+ * record is the first record_length bytes of the work buffer; plaid_record says
+ * the same. Take it out only where number is 0.
+ *
+ * The record's length. Before DivData stand 1 to 64 bytes, the record and its
+ * filler (see plaid_load), and nothing says where the one ends and the other
+ * begins. So the reader has to know, for each mode that it asks for, how many
+ * bytes the cards were loaded with. The filler is not looked at. A length that
+ * is not the card's is found only where it is 0 or more than stands there,
+ * which is 20. One that is too short cuts the record, and one that is too long
+ * but within the filler hands back zeros behind it, both with number 0.
  *
  * Declines, in the order in which they are tested:
  *   18  response_len is not 32, 48, 64, 80 or 96. To the reader a failed
  *       authentication like 20: another maker's card may refuse with an
  *       answer of any length
  *   19  work_len is below response_len
- *   20  not authenticated: padding, record length or DivData is wrong, one
- *       number for all. The card refused, or is another, or the answer was
- *       changed
+ *   20  not authenticated: padding or DivData is wrong, not 1 to 64 bytes
+ *       stand before DivData, record_length is 0, or fewer bytes than
+ *       record_length stand there; one number for all. The card refused, or is
+ *       another, or the answer was changed; or the reader has a wrong length
+ *       for this mode
  *
  * Written: the first response_len bytes of the work buffer and no others. They
- * are the deciphered answer: record, DivData and padding. After 20 they are
- * zeros. After 18 and 19 nothing is written.
+ * are the deciphered answer: record, filler, DivData and padding. After 20 they
+ * are zeros. After 18 and 19 nothing is written.
  */
 plaid_accepted plaid_accept(plaid_accepting of,
                             const uint8_t *response, size_t response_len,

@@ -1,5 +1,4 @@
 #include "bench.h"
-#include "example.h"
 #include "platform.h"
 
 #include <string.h>
@@ -39,14 +38,17 @@ static bool send_random_final(bench *b)
     return platform_random(command + 5, sizeof command - 6) && exchange(b, command, sizeof command, answer, sizeof answer) > 0;
 }
 
-static void prepare_reader(bench *b)
+static void prepare_reader(bench *b, const example_mode *mode)
 {
     memcpy(b->sets, b->fault.no_common_set ? example_strange_reader : example_reader, sizeof example_reader);
     if (b->fault.wrong_key)
         b->sets[1].fa_key[0] ^= 0x01;
     b->plan.sets = b->sets;
     b->plan.set_count = EXAMPLE_READER_SETS;
-    b->plan.mode = b->fault.unknown_mode ? example_unknown_mode : example_mode;
+    b->plan.mode = b->fault.unknown_mode ? example_unknown.id : mode->id;
+    b->plan.record_length = mode->record_length;
+    if (b->fault.wrong_length)
+        b->plan.record_length = 16 * (b->card.reply_size - 2) + 1;
     b->plan.payload = (const uint8_t *)payload;
     b->plan.payload_len = strlen(payload);
     b->plan.exchange = exchange;
@@ -67,25 +69,25 @@ static bool load_cards(bench *b)
 bool bench_keys(void)
 {
     static bench b;
-    static const bench_fault none, strange = {true, false, false, false};
+    static const bench_fault none, strange = {.no_common_set = true};
     bool ok = load_cards(&b) && card_keys(&b.card) && card_keys(&b.other);
     b.fault = none;
-    prepare_reader(&b);
+    prepare_reader(&b, &example_wiegand);
     ok = ok && reader_keys(&b.plan);
     b.fault = strange;
-    prepare_reader(&b);
+    prepare_reader(&b, &example_wiegand);
     ok = ok && reader_keys(&b.plan);
     bench_forget(&b);
     return ok;
 }
 
-bool bench_run(bench *b, bench_fault fault)
+bool bench_run(bench *b, const example_mode *mode, bench_fault fault)
 {
     memset(b, 0, sizeof *b);
     b->fault = fault;
     if (!load_cards(b))
         return false;
-    prepare_reader(b);
+    prepare_reader(b, mode);
     b->number = reader_run(&b->plan, &b->session);
     if (b->exchanges == 1 && b->number == PLAID_DECLINE_NONE_OPENS && !send_random_final(b))
         return false;

@@ -1,11 +1,12 @@
 /*
  * A bench on which a card and a reader hold one session. The bench keeps what goes over the line. Beside the card stands another one, with
- * other keys and records but the same shill keys, which gets the same commands and, as an experiment, the same fresh bytes.
+ * other keys and records but the same shill keys and reply size, which gets the same commands and, as an experiment, the same fresh bytes.
  */
 #ifndef BENCH_H
 #define BENCH_H
 
 #include "card_end.h"
+#include "example.h"
 #include "reader_end.h"
 
 /* A command and its answer. */
@@ -22,7 +23,8 @@ typedef struct {
     bool no_common_set;
     bool wrong_key;
     bool unknown_mode;
-    bool damage; /* a bit of the final command's last block */
+    bool damage;       /* a bit of the final command's last block */
+    bool wrong_length; /* the reader takes the record for longer than what the card sends before DivData */
 } bench_fault;
 
 typedef struct {
@@ -39,8 +41,8 @@ typedef struct {
 /* Loads the RSA keys of the cards and the readers. False where one is not there. */
 bool bench_keys(void);
 
-/* Runs a session. False where a load was declined or the platform failed. */
-bool bench_run(bench *b, bench_fault fault);
+/* Runs a session for a mode. False where a load was declined or the platform failed. */
+bool bench_run(bench *b, const example_mode *mode, bench_fault fault);
 
 /* Erases it. */
 void bench_forget(bench *b);

@@ -4,10 +4,10 @@
 
 #include "plaid.h"
 
-/* The card: key sets 0102 and 0203; modes 0007 and 0008, each with a record of 22 bytes. */
+/* The card: key sets 0102 and 0203; mode 0007 with a Wiegand number of 4 bytes, mode 0008 with a UUID of 16. */
 plaid_loaded example_card(void);
 
-/* Another card with the same shill keys and reply size: other key set, other mode, other record. */
+/* Another card with the same shill keys and reply size: other key set, other mode, other record of another length. */
 plaid_loaded example_other_card(void);
 
 /* The reader's key sets in order of preference, 0301 and 0102; the handle names its private RSA key. */
@@ -17,8 +17,17 @@ extern const plaid_key_set example_reader[EXAMPLE_READER_SETS];
 /* A reader that has no set in common with the card: 0301 and 0302. */
 extern const plaid_key_set example_strange_reader[EXAMPLE_READER_SETS];
 
-/* The mode that the reader asks for, and one that the card does not hold. */
-extern const plaid_op_mode_id example_mode;
-extern const plaid_op_mode_id example_unknown_mode;
+/* A mode as the reader knows it. No answer says how long its record is. */
+typedef struct {
+    plaid_op_mode_id id;
+    size_t record_length;
+    const char *name;
+} example_mode;
+
+/* The card's two modes, and one that it does not hold. */
+extern const example_mode example_wiegand, example_uuid, example_unknown;
+
+/* The mode of this number; NULL where the reader does not know it. */
+const example_mode *example_mode_of(plaid_op_mode_id id);
 
 #endif

@@ -1,10 +1,13 @@
 /*
  * A reader: writes its commands to standard output and reads the card's answers from standard input, each a line of hexadecimal bytes.
- * The record goes to standard error, or why there is none.
+ * The record goes to standard error, as such bytes too, or why there is none.
  *
- *   reader MODE [KEYS [FAKEY]]     MODE: OpModeID, 4 digits. KEYS: the folder of RSA keys, '' or none: the stand-in, which standard error
- *                                  names. FAKEY: 32 digits, in the place of the example's key of set 0102; for tests, since others on
- *                                  the machine may see it
+ *   reader MODE[:LENGTH] [KEYS [FAKEY]]
+ *
+ *   MODE     OpModeID, 4 digits
+ *   LENGTH   how many bytes the mode's record has, in decimal; needed where MODE is none of the examples' modes, whose lengths are known
+ *   KEYS     the folder of RSA keys; '' or none: the stand-in, which standard error names
+ *   FAKEY    32 digits, in the place of the example's key of set 0102; for tests, since others on the machine may see it
  *
  * Exit status: 0 with a record; 1 where the library declined, whose number is told; 2 usage; 101 to 106 the fault that is told
  * (reader_end.h). An answer that is no hexadecimal is named with its line's number and ends the session: fault 102.
@@ -14,7 +17,9 @@
 #include "platform.h"
 #include "reader_end.h"
 
+#include <ctype.h>
 #include <signal.h>
+#include <stdlib.h>
 #include <string.h>
 
 /* A reader_exchange; `line` counts the lines that were read. */
@@ -34,9 +39,29 @@ static long exchange(void *line, const uint8_t *command, size_t command_len, uin
 
 static int usage(void)
 {
-    fprintf(stderr, "usage: reader MODE [KEYS [FAKEY]] >commands <answers, a line of hexadecimal bytes each\n"
-                    "MODE: 4 hexadecimal digits; KEYS: a folder of make-keys, or ''; FAKEY: 32 digits\n");
+    fprintf(stderr, "usage: reader MODE[:LENGTH] [KEYS [FAKEY]] >commands <answers, a line of hexadecimal bytes each\n"
+                    "MODE: 4 hexadecimal digits; LENGTH: of its record, in decimal, for a mode that is none of the examples';\n"
+                    "KEYS: a folder of make-keys, or ''; FAKEY: 32 digits\n");
     return 2;
+}
+
+/* Takes MODE or MODE:LENGTH into a plan. False where it is neither, or the length is not known. */
+static bool take_mode(char *text, reader_plan *plan)
+{
+    uint8_t id[2];
+    char *end, *length = strchr(text, ':');
+    if (length)
+        *length++ = '\0';
+    if (hex_bytes(text, id, sizeof id) != 2)
+        return false;
+    plan->mode.value = (uint16_t)(id[0] * 256 + id[1]);
+    if (length) {
+        plan->record_length = strtoull(length, &end, 10);
+        return isdigit((unsigned char)*length) && !*end;
+    }
+    const example_mode *known = example_mode_of(plan->mode);
+    plan->record_length = known ? known->record_length : 0;
+    return known != NULL;
 }
 
 /* Runs a session and tells how it ended. Returns the exit status. */
@@ -50,20 +75,23 @@ static int tell(const reader_plan *plan)
         fprintf(stderr, "reader: %s\n", platform_trouble());
     int number = keys ? reader_run(plan, &s) : READER_NO_KEY;
     reader_words(number, &s, words, sizeof words);
-    if (number == PLAID_DONE)
-        fprintf(stderr, "record: %.*s\n", (int)s.record.length, (const char *)s.work + s.record.start);
-    else
+    if (number == PLAID_DONE) {
+        fprintf(stderr, "record: ");
+        hex_write(stderr, s.work + s.record.start, s.record.length);
+    } else {
         fprintf(stderr, "reader: no record, %s\n", words);
+    }
     reader_forget(&s);
     return number >= READER_NO_KEY ? number : number != PLAID_DONE;
 }
 
 int main(int argc, char **argv)
 {
-    uint8_t mode[2];
+    long line = 0;
     plaid_key_set sets[EXAMPLE_READER_SETS];
+    reader_plan plan = {sets, EXAMPLE_READER_SETS, {0}, 0, (const uint8_t *)"", 0, exchange, &line};
     memcpy(sets, example_reader, sizeof sets);
-    if (argc < 2 || argc > 4 || hex_bytes(argv[1], mode, 2) != 2 || (argc > 2 && argv[2][0] == '-')
+    if (argc < 2 || argc > 4 || !take_mode(argv[1], &plan) || (argc > 2 && argv[2][0] == '-')
         || (argc > 3 && hex_bytes(argv[3], sets[1].fa_key, PLAID_KEY) != PLAID_KEY))
         return usage();
     if (argc > 3)
@@ -72,8 +100,6 @@ int main(int argc, char **argv)
     platform_open(argc > 2 && argv[2][0] ? argv[2] : NULL);
     if (platform_is_stand_in())
         fprintf(stderr, "reader: %s\n", platform_rsa());
-    long line = 0;
-    reader_plan plan = {sets, EXAMPLE_READER_SETS, {(uint16_t)(mode[0] * 256 + mode[1])}, mode, 0, exchange, &line};
     int status = tell(&plan);
     platform_erase(sets, sizeof sets);
     platform_close();

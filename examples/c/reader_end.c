@@ -64,11 +64,12 @@ static int initial(const reader_plan *plan, reader_session *s)
     return length == PLAID_BLOCK ? open_answer(plan, answer, &s->opened) : READER_LENGTH;
 }
 
-static int accept_answer(reader_session *s, const uint8_t *answer, size_t length)
+static int accept_answer(const reader_plan *plan, reader_session *s, const uint8_t *answer, size_t length)
 {
     plaid_accepting accepting;
     memcpy(accepting.keys_hash, s->sealed.keys_hash, PLAID_KEYS_HASH);
     memcpy(accepting.div_data, s->opened.div_data, PLAID_DIV_DATA);
+    accepting.record_length = plan->record_length;
     s->accepted = plaid_accept(accepting, answer, length, s->work, sizeof s->work);
     platform_erase(&accepting, sizeof accepting);
     s->record = plaid_record(s->work, sizeof s->work, s->accepted);
@@ -89,7 +90,7 @@ static int final(const reader_plan *plan, reader_session *s)
     if (s->sealed.number != PLAID_DONE)
         return s->sealed.number;
     int number = ask(plan, s, command, s->sealed.length, answer, sizeof answer, &length);
-    return number == PLAID_DONE ? accept_answer(s, answer, length) : number;
+    return number == PLAID_DONE ? accept_answer(plan, s, answer, length) : number;
 }
 
 int reader_run(const reader_plan *plan, reader_session *s)

@@ -12,6 +12,7 @@ typedef struct {
     const plaid_key_set *sets; /* in order of preference; a handle names the platform's private RSA key */
     size_t set_count;          /* 1 to 16 */
     plaid_op_mode_id mode;
+    size_t record_length;      /* of that mode, as cards are loaded with it */
     const uint8_t *payload;
     size_t payload_len;
     reader_exchange *exchange;

@@ -1,6 +1,6 @@
 /*
- * A session to watch: a card and a reader on the bench, each message with its fields in words; then one refused session of each kind, as
- * a stranger sees it and as the key holder sees it. Exit status 1 where something was not as expected.
+ * Sessions to watch: a card and a reader on the bench, for each of the card's two records, each message with its fields in words; then one
+ * refused session of each kind, as a stranger sees it and as the key holder sees it. Exit status 1 where something was not as expected.
  *
  *   watch [KEYS]      KEYS: the folder of RSA keys; none: the stand-in, which the output names
  */
@@ -39,6 +39,7 @@ static void show_field(const char *name, const uint8_t *bytes, size_t count, con
 
 static void show_card(const plaid_card *card)
 {
+    size_t filled = 16 * (card->reply_size - 2);
     printf("THE CARD AS LOADED\n    key sets    ");
     for (size_t i = 0; i < PLAID_CARD_KEY_SETS && card->sets[i].held; i++)
         printf("%s%04X (RSA key %02X)", i > 0 ? ", " : "", card->sets[i].id.value, card->sets[i].handle);
@@ -48,7 +49,8 @@ static void show_card(const plaid_card *card)
     printf("\n");
     show_field("DivData", card->div_data, PLAID_DIV_DATA, "");
     printf("    shill keys  RSA key %02X and an AES key, for answers to strangers\n", card->shill_handle);
-    printf("    reply size  %zu blocks: every final answer has %zu bytes\n", card->reply_size, 16 * card->reply_size);
+    printf("    reply size  %zu blocks: every final answer has %zu bytes, and a record of\n", card->reply_size, 16 * card->reply_size);
+    printf("                under %zu bytes is followed by zero bytes, up to %zu in all\n", filled, filled);
 }
 
 /* A command's bytes and the first four of its fields. */
@@ -106,15 +108,31 @@ static void show_final(const bench *b)
     show_field("Le", x->command + x->command_len - 1, 1, "");
 }
 
+/* How many bytes of the deciphered answer stand before DivData: the record and its filler. */
+static size_t body_length(const bench *b)
+{
+    size_t end = b->final.answer_len;
+    while (end > 0 && b->session.work[end - 1] == 0)
+        end--;
+    return end < PLAID_DIV_DATA + 1 ? 0 : end - PLAID_DIV_DATA - 1; /* the padding begins with 80 */
+}
+
 static void show_record(const bench *b)
 {
     const plaid_part *part = &b->session.record;
     const uint8_t *record = b->session.work + part->start;
+    size_t body = body_length(b);
     printf("\n4  CARD TO READER: %zu bytes, status %04X\n", b->final.answer_len, b->final.reply.told.status);
     show_rows(b->final.reply.bytes, b->final.answer_len);
-    printf("    Enciphered under KeysHash. The reader accepts it:\n");
-    printf("    record      %zu bytes: %.*s\n", part->length, (int)part->length, (const char *)record);
-    show_field("DivData", record + part->length, PLAID_DIV_DATA, "");
+    printf("    Enciphered under KeysHash. The reader, which knows that the record of mode\n");
+    printf("    %04X has %zu bytes, accepts it:\n", b->plan.mode.value, b->plan.record_length);
+    show_field("record", record, part->length, "handed back");
+    if (body > part->length)
+        show_field("filler", record + part->length, body - part->length, "not looked at");
+    else
+        printf("    filler      none\n");
+    show_field("DivData", record + body, PLAID_DIV_DATA, "");
+    printf("    padding     80 and %zu bytes 00\n", b->final.answer_len - body - PLAID_DIV_DATA - 1);
 }
 
 static void show_count(const char *name, size_t initial, size_t final)
@@ -134,12 +152,31 @@ static void show_counts(const card_reply *initial, const card_reply *final)
     printf("    %-16s  %08X  %08X   not sent\n", "work sum", (unsigned)initial->sum, (unsigned)final->sum);
 }
 
-static bool watch_good(bench *b)
+/* The reader has the card's record of that mode, and no byte more. */
+static bool record_is(const bench *b, const example_mode *mode)
 {
-    bench_fault none = {false, false, false, false};
-    if (!bench_run(b, none) || b->number != PLAID_DONE)
+    const plaid_mode_slot *slot = b->card.modes;
+    while (slot->id.value != mode->id.value)
+        if (++slot == b->card.modes + PLAID_CARD_MODES)
+            return false;
+    return b->session.record.length == slot->len
+        && memcmp(b->session.work + b->session.record.start, b->card.area + slot->start, slot->len) == 0;
+}
+
+/* What a stranger can tell two sessions by is the same. */
+static bool alike_on_the_line(const bench *a, const bench *b)
+{
+    return a->initial.command_len == b->initial.command_len && a->initial.answer_len == b->initial.answer_len
+        && a->final.command_len == b->final.command_len && a->final.answer_len == b->final.answer_len
+        && a->initial.reply.told.status == PLAID_ANSWER_OK && a->final.reply.told.status == PLAID_ANSWER_OK;
+}
+
+static bool watch_good(bench *b, const example_mode *mode)
+{
+    static const bench_fault none;
+    if (!bench_run(b, mode, none) || b->number != PLAID_DONE || !record_is(b, mode))
         return false;
-    show_card(&b->card);
+    printf("\nSESSION FOR MODE %04X: %s, %zu bytes\n", mode->id.value, mode->name, mode->record_length);
     show_initial(b);
     show_opened(b);
     show_final(b);
@@ -184,41 +221,60 @@ static void explain_final(const bench *b, const char *cause)
     if (b->final.as_other_card)
         printf("    card     refuses, under the shill AES key: a card with other keys,\n"
                "             given the same fresh bytes, sends the same %zu bytes\n", b->final.answer_len);
+    else
+        printf("    card     accepts: %zu bytes, record and filler, before DivData\n", 16 * (b->card.reply_size - 2));
     if (b->session.accepted.number != PLAID_DONE)
         printf("    reader   Accept gives %d: not authenticated, no record\n", b->session.accepted.number);
     else
         printf("    reader   has no KeysHash, and no record\n");
 }
 
-/* A refused session: the number that the reader has to end with, and on the line nothing that tells it from the good one. */
-static bool watch_refused(const bench *good, const char *title, bench_fault fault, const char *cause, int number)
+/* A refused session: who refuses, by what number the reader has to end, and on the line nothing that tells it from the good one. */
+typedef struct {
+    const char *title;
+    bench_fault fault;
+    const char *cause;
+    bool card_refuses; /* or the reader alone */
+    int number;
+} refusal;
+
+static bool watch_refused(const bench *good, const refusal *of)
 {
     static bench b;
-    if (!bench_run(&b, fault))
+    if (!bench_run(&b, &example_wiegand, of->fault))
         return false;
-    printf("\nREFUSED: %s\n  as a stranger sees it\n", title);
+    printf("\nREFUSED: %s\n  as a stranger sees it\n", of->title);
     show_exchange(&b.initial);
     show_exchange(&b.final);
     printf("  as the key holder sees it\n");
     explain_initial(&b);
-    explain_final(&b, cause);
-    bool alike = b.number == number && b.final.as_other_card && !b.card.session.opened
-        && b.initial.command_len == good->initial.command_len && b.initial.answer_len == good->initial.answer_len
-        && b.final.command_len == good->final.command_len && b.final.answer_len == good->final.answer_len
-        && b.initial.reply.told.status == PLAID_ANSWER_OK && b.final.reply.told.status == PLAID_ANSWER_OK;
+    explain_final(&b, of->cause);
+    bool expected = b.number == of->number && b.final.as_other_card == of->card_refuses && !b.card.session.opened
+        && b.session.record.length == 0 && alike_on_the_line(&b, good);
     bench_forget(&b);
-    return alike;
+    return expected;
 }
+
+static const refusal refusals[] = {
+    {"no key set in common", {.no_common_set = true}, "stops; the bench sends random bytes as a final command", true, 15},
+    {"wrong FAKey", {.wrong_key = true}, "Seal, under a FAKey that differs in one bit", true, 20},
+    {"unknown mode", {.unknown_mode = true}, "Seal, for mode 0BAD, which the card does not hold", true, 20},
+    {"damaged padding", {.damage = true}, "Seal; a bit of the last block flips on the line: padding lost", true, 20},
+    {"wrong record length", {.wrong_length = true}, "Seal, for mode 0007, whose record it takes for 17 bytes", false, 20},
+};
+#define REFUSALS (sizeof refusals / sizeof refusals[0])
 
 static bool watch_all(bench *good)
 {
-    static const bench_fault no_set = {true, false, false, false}, key = {false, true, false, false}, mode = {false, false, true, false},
-                             damage = {false, false, false, true};
-    return watch_good(good)
-        && watch_refused(good, "no key set in common", no_set, "stops; the bench sends random bytes as a final command", 15)
-        && watch_refused(good, "wrong FAKey", key, "Seal, under a FAKey that differs in one bit", 20)
-        && watch_refused(good, "unknown mode", mode, "Seal, for mode 0BAD, which the card does not hold", 20)
-        && watch_refused(good, "damaged padding", damage, "Seal; a bit of the last block flips on the line: padding lost", 20);
+    static bench second;
+    plaid_loaded loaded = example_card();
+    show_card(&loaded.card);
+    platform_erase(&loaded, sizeof loaded);
+    bool ok = watch_good(good, &example_wiegand) && watch_good(&second, &example_uuid) && alike_on_the_line(&second, good);
+    bench_forget(&second);
+    for (size_t i = 0; ok && i < REFUSALS; i++)
+        ok = watch_refused(good, &refusals[i]);
+    return ok;
 }
 
 int main(int argc, char **argv)
@@ -233,10 +289,10 @@ int main(int argc, char **argv)
         fprintf(stderr, "watch: %s\n", platform_trouble());
         return READER_NO_KEY;
     }
-    printf("A PLAID session. Fresh bytes: %s.\nRSA: %s.\n\n", platform_source(), platform_rsa());
+    printf("PLAID sessions. Fresh bytes: %s.\nRSA: %s.\n\n", platform_source(), platform_rsa());
     bool ok = watch_all(&good);
     if (ok)
-        printf("\nOn the line all five sessions were alike: messages of %zu, %zu, %zu and %zu\nbytes, status 9000. One of them gave a record.\n",
+        printf("\nOn the line all seven sessions were alike: messages of %zu, %zu, %zu and %zu\nbytes, status 9000. Two of them gave a record.\n",
             good.initial.command_len, good.initial.answer_len, good.final.command_len, good.final.answer_len);
     else
         printf("\nNOT AS EXPECTED: stopped.\n");

@@ -140,8 +140,8 @@ fn seal(line: &str) -> Result<String, String> {
 }
 
 fn accept(line: &str) -> Result<String, String> {
-    let f = fields(line, &["keyshash", "div", "response", "work"])?;
-    let of = Accepting { keys_hash: sixteen(f["keyshash"])?, div_data: sixteen(f["div"])? };
+    let f = fields(line, &["keyshash", "div", "reclen", "response", "work"])?;
+    let of = Accepting { keys_hash: sixteen(f["keyshash"])?, div_data: sixteen(f["div"])?, record_length: number(f["reclen"])? };
     let response = bytes(f["response"])?;
     let before = bytes(f["work"])?;
     let mut work = before.clone();

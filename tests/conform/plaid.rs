@@ -143,6 +143,7 @@ pub struct Sealed {
 pub struct Accepting {
     pub keys_hash: [u8; 16],
     pub div_data: [u8; 16],
+    pub record_length: usize,
 }
 
 #[repr(C)]

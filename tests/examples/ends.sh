@@ -16,18 +16,34 @@ session() {
     echo "$(grep -v STAND-IN "$room/told" | paste -sd ';'), exit $status"
 }
 
-record="record: ROLE=settings engineer, exit 0"
+# The Wiegand number of mode 0007 and the UUID of mode 0008, and what a reader tells of the first.
+wiegand=002A24CF uuid=F81D4FAE7DEC11D0A76500A0C91E6BF6
+record="record: $wiegand, exit 0"
 stand_ins() { cat "$room/card-told" "$room/told" | sed -n 's/: a STAND-IN for RSA, which hides nothing.*//p' | paste -sd ' '; }
 sessions() { # KEYS: '' is the stand-in
     local name="session, ${1:+RSA}" named=""
     if [ -z "$1" ]; then name="session, stand-in" named="card reader"; fi
     holds "$name: record of mode 0007" gives "$record" "$(session "$1" 0007)"
     holds "$name: both name a stand-in, and RSA is none" gives "$named" "$(stand_ins)"
-    holds "$name: record of mode 0008" gives "record: ROLE=protection viewer, exit 0" "$(session "$1" 0008)"
+    holds "$name: record of mode 0008" gives "record: $uuid, exit 0" "$(session "$1" 0008)"
     holds "$name: the right FAKey as an argument" gives "$record" \
         "$(session "$1" 0007 "$(printf 'FAKey of set 102' | od -An -tx1 | tr -d ' \n')")"
     holds "$name: wrong FAKey" gives "reader: no record, number 20, exit 1" "$(session "$1" 0007 "$(zeros 32)")"
     holds "$name: unknown mode" gives "reader: no record, number 20, exit 1" "$(session "$1" 0BAD)"
+    holds "$name: unknown mode, its length given" gives "reader: no record, number 20, exit 1" "$(session "$1" 0009:4)"
+    lengths "$name" "$1"
+}
+# Reader and card differ in how long the record is. 16 bytes stand before DivData for both modes: more is refused, as is 0. What another
+# maker's reader takes for mode 0007, all that stands there, is the Wiegand number and the filler.
+lengths() { # NAME KEYS
+    local length
+    holds "$1: the record's own length as an argument" gives "$record" "$(session "$2" 0007:4)"
+    for length in 0 17 64 65 4294967300 18446744073709551615 99999999999999999999; do
+        holds "$1: mode 0007 taken for $length bytes" gives "reader: no record, number 20, exit 1" "$(session "$2" "0007:$length")"
+    done
+    holds "$1: mode 0008 taken for 17 bytes" gives "reader: no record, number 20, exit 1" "$(session "$2" 0008:17)"
+    holds "$1: mode 0007 taken for all that stands there" gives "record: $wiegand$(zeros 24), exit 0" "$(session "$2" 0007:16)"
+    holds "$1: mode 0008 taken for the other's length" gives "record: ${uuid:0:8}, exit 0" "$(session "$2" 0008:4)"
 }
 
 # card LINE..: the card's answers and exit status, on one line; what it complains of goes to a file
@@ -71,6 +87,10 @@ usages() {
     holds "usage: reader --help" usage "$ex/reader" --help
     holds "usage: reader, a mode of three digits" usage "$ex/reader" 007
     holds "usage: reader, a mode of six digits" usage "$ex/reader" 000007
+    holds "usage: reader, a mode whose length is not known" usage "$ex/reader" 0009
+    holds "usage: reader, no length behind the colon" usage "$ex/reader" 0007:
+    holds "usage: reader, a length that is no number" usage "$ex/reader" 0007:4x
+    holds "usage: reader, a length below 0" usage "$ex/reader" 0007:-4
     holds "usage: reader, a short FAKey" usage "$ex/reader" 0007 '' 00
     holds "usage: reader, four arguments" usage "$ex/reader" 0007 '' "$(zeros 32)" x
     holds "usage: watch --help" usage "$ex/watch" --help
@@ -159,10 +179,11 @@ erased() { # KEYS
     local card_env=(ERASED="$room/card-erased") reader_env=(ERASED="$room/reader-erased") ex=$room/seams
     rm -f "$room"/*-erased
     holds "erased: a session" gives "$record" "$(session "$1" 0007)"
-    holds "erased: by the card" told_erased card "card FAKey" "card record" "card shill-key" "fresh RND1" "given shill-key" \
-        "loaded FAKey" "loaded record" "loaded shill-key" "outcome FAKey" "outcome RND1" "outcome record" "outcome shill-key"
+    holds "erased: by the card" told_erased card "card FAKey" "card UUID" "card Wiegand" "card shill-key" "fresh RND1" "given shill-key" \
+        "loaded FAKey" "loaded UUID" "loaded Wiegand" "loaded shill-key" "outcome FAKey" "outcome RND1" "outcome UUID" "outcome Wiegand" \
+        "outcome shill-key"
     holds "erased: by the reader" told_erased reader "accepting KeysHash" "blocks RND1" "session FAKey" "session KeysHash" "session RND1" \
-        "session RND2" "session record" "sets FAKey"
+        "session RND2" "session Wiegand" "sets FAKey"
     rm -f "$room"/*-erased
     card_env+=(ERASE=no) reader_env+=(ERASE=no)
     holds "erased: a session without erasing" gives "$record" "$(session "$1" 0007)"

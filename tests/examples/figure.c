@@ -32,14 +32,14 @@ static double milliseconds(clock_t ticks)
 
 static bool session(const char *folder)
 {
-    static const char record[] = "ROLE=settings engineer";
+    static const uint8_t record[] = {0xF8, 0x1D, 0x4F, 0xAE, 0x7D, 0xEC, 0x11, 0xD0, 0xA7, 0x65, 0x00, 0xA0, 0xC9, 0x1E, 0x6B, 0xF6};
     plaid_key_set sets[PLAID_LIST_IDS];
     plaid_loaded loaded = example_card();
     reader_session s;
     for (size_t i = 0; i < PLAID_LIST_IDS; i++)
         sets[i] = (plaid_key_set){{(uint16_t)(0x0500 + i)}, handles[i], {0}};
     sets[PLAID_LIST_IDS - 1] = example_reader[1];
-    reader_plan plan = {sets, PLAID_LIST_IDS, example_mode, handles, 0, exchange, &loaded.card};
+    reader_plan plan = {sets, PLAID_LIST_IDS, example_uuid.id, sizeof record, handles, 0, exchange, &loaded.card};
     platform_open(folder);
     if (!card_keys(&loaded.card) || !reader_keys(&plan)) {
         fprintf(stderr, "figure: %s\n", platform_trouble());
@@ -48,8 +48,8 @@ static bool session(const char *folder)
     clock_t start = clock();
     int number = reader_run(&plan, &s);
     clock_t end = clock();
-    if (number != PLAID_DONE || s.opened.place != PLAID_LIST_IDS - 1 || s.accepted.length != strlen(record)
-        || memcmp(s.work, record, strlen(record)) != 0)
+    if (number != PLAID_DONE || s.opened.place != PLAID_LIST_IDS - 1 || s.accepted.length != sizeof record
+        || memcmp(s.work, record, sizeof record) != 0)
         return false;
     printf("figure: a session with RSA-2048 and 16 listed sets: %.1f ms of processor time; %.1f ms with the process's start and its 19 keys\n",
         milliseconds(end - start), milliseconds(end));

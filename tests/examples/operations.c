@@ -114,7 +114,7 @@ static void try_number(const char *name, const BIGNUM *number, size_t first, siz
         sets[i].handle = handles[first + i];
     }
     BN_bn2binpad(number, answer, PLAID_BLOCK);
-    reader_plan plan = {sets, entries, {7}, answer, 0, exchange, answer};
+    reader_plan plan = {sets, entries, {7}, 4, answer, 0, exchange, answer};
     operations = 0;
     handed_len = 0;
     int ended = reader_run(&plan, &s);

@@ -20,9 +20,10 @@ static struct {
     uint8_t bytes[PLAID_CARD_RECORD];
     size_t len;
 } secrets[SECRETS] = {
-    {"FAKey", "FAKey of set 102", 16}, {"shill-key", "the shill key 16", 16}, {"record", "ROLE=settings engineer", 22},
+    {"FAKey", "FAKey of set 102", 16}, {"shill-key", "the shill key 16", 16}, {"Wiegand", {0x00, 0x2A, 0x24, 0xCF}, 4},
+    {"UUID", {0xF8, 0x1D, 0x4F, 0xAE, 0x7D, 0xEC, 0x11, 0xD0, 0xA7, 0x65, 0x00, 0xA0, 0xC9, 0x1E, 0x6B, 0xF6}, 16},
 };
-static size_t known = 3;
+static size_t known = 4;
 
 static void learn(const char *name, const uint8_t *bytes, size_t len)
 {
@@ -87,8 +88,8 @@ plaid_sealed __wrap_plaid_seal(plaid_sealing of, const uint8_t *payload, size_t 
     return sealed;
 }
 
-/* An object by its size. */
-static const char *object(size_t size)
+/* An object by its size. The reader's sets are as long as `accepting`, and begin with the example's first KeySetID and handle. */
+static const char *object(const void *at, size_t size)
 {
     static const struct {
         size_t size;
@@ -96,8 +97,10 @@ static const char *object(size_t size)
     } objects[] = {
         {sizeof(plaid_given), "given"}, {sizeof(plaid_loaded), "loaded"}, {sizeof(plaid_card), "card"}, {sizeof(plaid_outcome), "outcome"},
         {PLAID_FRESH, "fresh"}, {CARD_ANSWER_MOST, "answer"}, {PLAID_LIST_IDS * PLAID_BLOCK, "blocks"}, {sizeof(plaid_accepting), "accepting"},
-        {sizeof(reader_session), "session"}, {EXAMPLE_READER_SETS * sizeof(plaid_key_set), "sets"},
+        {sizeof(reader_session), "session"},
     };
+    if (size == sizeof example_reader && memcmp(at, &example_reader[0], offsetof(plaid_key_set, fa_key)) == 0)
+        return "sets";
     for (size_t i = 0; i < sizeof objects / sizeof objects[0]; i++)
         if (objects[i].size == size)
             return objects[i].name;
@@ -115,6 +118,7 @@ static bool holds(const uint8_t *bytes, size_t count, const uint8_t *secret, siz
 void __real_platform_erase(void *at, size_t count);
 void __wrap_platform_erase(void *at, size_t count)
 {
+    const char *name = object(at, count);
     bool held[SECRETS] = {false}, left = false;
     for (size_t i = 0; i < known; i++)
         held[i] = holds(at, count, secrets[i].bytes, secrets[i].len);
@@ -125,7 +129,7 @@ void __wrap_platform_erase(void *at, size_t count)
     FILE *f = getenv("ERASED") ? fopen(getenv("ERASED"), "a") : NULL;
     for (size_t i = 0; f && i < known; i++)
         if (held[i])
-            fprintf(f, "%s %s%s\n", object(count), secrets[i].name, left ? " NOT ERASED" : "");
+            fprintf(f, "%s %s%s\n", name, secrets[i].name, left ? " NOT ERASED" : "");
     if (f)
         fclose(f);
 }

@@ -210,7 +210,7 @@ static void load_order(void)
     c.given.mode_count = PLAID_CARD_MODES + 1;
     c.given.modes[15].id = c.given.modes[3].id;
     c.area_len = PLAID_CARD_AREA + 1;
-    c.given.modes[4].len = 1;
+    c.given.modes[4].len = 0;
     CHECK(load_number(&c) == PLAID_DECLINE_KEY_SET_COUNT);
     c.set_count = PLAID_CARD_KEY_SETS;
     CHECK(load_number(&c) == PLAID_DECLINE_KEY_SET_REPEATED);
@@ -223,7 +223,7 @@ static void load_order(void)
     c.given.modes[15].id = right.given.modes[15].id;
     CHECK(load_number(&c) == PLAID_DECLINE_RECORD);
     c.area_len = PLAID_CARD_AREA;
-    CHECK(load_number(&c) == PLAID_DECLINE_REPLY_SIZE);
+    CHECK(load_number(&c) == PLAID_DECLINE_RECORD);
     c.given.modes[4].len = right.given.modes[4].len;
     CHECK(load_number(&c) == PLAID_DONE);
 }
@@ -243,6 +243,41 @@ static void load_counts(void)
     c.given.modes[1].id = c.given.modes[0].id;
     c.sets[1].id = c.sets[0].id;
     CHECK(load_number(&c) == PLAID_DONE);
+}
+
+/* Two modes, with records of these lengths one behind the other. */
+static load_case two_records(size_t first, size_t second)
+{
+    load_case c = full_load();
+    c.given.mode_count = 2;
+    c.given.modes[0].len = first;
+    c.given.modes[1].start = c.given.modes[0].start + first;
+    c.given.modes[1].len = second;
+    return c;
+}
+
+/* The reply size of such a card, whose slots and area are as given; 0 where it was declined. */
+static size_t reply_of_two(size_t first, size_t second)
+{
+    load_case c = two_records(first, second);
+    plaid_loaded loaded = load(&c);
+    CHECK(mode_slot_is(&loaded.card.modes[0], &c.given.modes[0]) && mode_slot_is(&loaded.card.modes[1], &c.given.modes[1]));
+    CHECK(memcmp(loaded.card.area, c.area, c.area_len) == 0);
+    return loaded.number == PLAID_DONE ? loaded.card.reply_size : 0;
+}
+
+/* Records that need unequal reply sizes: the largest counts, at whichever place it stands. */
+static void load_unequal(void)
+{
+    CHECK(reply_of_two(4, 16) == 3 && reply_of_two(16, 4) == 3);
+    CHECK(reply_of_two(15, 64) == PLAID_CARD_REPLY_MOST && reply_of_two(64, 15) == PLAID_CARD_REPLY_MOST);
+    CHECK(reply_of_two(4, 15) == PLAID_CARD_REPLY_LEAST && reply_of_two(31, 32) == 4);
+    for (size_t i = 0; i < PLAID_CARD_MODES; i++) {
+        load_case c = full_load();
+        for (size_t j = 0; j < PLAID_CARD_MODES; j++)
+            c.given.modes[j].len = j == i ? PLAID_CARD_RECORD : 1 + j;
+        CHECK(load_number(&c) == PLAID_DONE && load(&c).card.reply_size == PLAID_CARD_REPLY_MOST);
+    }
 }
 
 /* One mode whose record is a part of an area. */
@@ -597,8 +632,8 @@ static void open_declined(void)
     CHECK(open_number(of, 12 * PLAID_BLOCK) == PLAID_DECLINE_NONE_OPENS);
 }
 
-/* The set whose session is open is the sixth, the mode the fourth. */
-static plaid_sealing sealing_of(const load_case *l)
+/* The set whose session is open is the sixth. */
+static plaid_sealing sealing_of(const load_case *l, size_t mode)
 {
     plaid_sealing of;
     memset(&of, 0, sizeof of);
@@ -606,7 +641,7 @@ static plaid_sealing sealing_of(const load_case *l)
     memcpy(of.div_data, l->given.div_data, PLAID_DIV_DATA);
     memcpy(of.rnd1, rnd1, PLAID_RND);
     memcpy(of.rnd2, rnd2, PLAID_RND);
-    of.mode = l->given.modes[3].id;
+    of.mode = l->given.modes[mode].id;
     return of;
 }
 
@@ -621,7 +656,7 @@ static void seal_fields(void)
     fill(&r);
     for (int i = 0; i < 2; i++) {
         plaid_sealed s;
-        CHECK(seal_at(r.bytes[i], sealing_of(&l), payload, 0, out, PLAID_FINAL_COMMAND_LEAST) == r.bytes[i]);
+        CHECK(seal_at(r.bytes[i], sealing_of(&l, 3), payload, 0, out, PLAID_FINAL_COMMAND_LEAST) == r.bytes[i]);
         memcpy(&s, r.bytes[i], sizeof s);
         CHECK(s.number == PLAID_DONE && s.length == PLAID_FINAL_COMMAND_LEAST);
         CHECK(memcmp(s.keys_hash, keys_hash, PLAID_KEYS_HASH) == 0);
@@ -635,7 +670,7 @@ static void seal_fields(void)
 static void seal_declined(void)
 {
     load_case l = full_load();
-    plaid_sealing of = sealing_of(&l);
+    plaid_sealing of = sealing_of(&l, 3);
     uint8_t out[PLAID_FINAL_COMMAND_MOST];
     memset(out, CANARY, sizeof out);
     CHECK(plaid_seal(of, payload, PLAID_PAYLOAD + 1, out, 0).number == PLAID_DECLINE_PAYLOAD);
@@ -647,12 +682,14 @@ static void seal_declined(void)
 }
 
 /* Accept with the result's two registers as bytes of the struct. */
-static plaid_accepted accept(const uint8_t *div_data, const uint8_t *response, size_t response_len, uint8_t *work, size_t work_len)
+static plaid_accepted accept(const uint8_t *div_data, size_t record_length, const uint8_t *response, size_t response_len, uint8_t *work,
+    size_t work_len)
 {
     plaid_accepting of;
     plaid_accepted a;
     memcpy(of.keys_hash, keys_hash, PLAID_KEYS_HASH);
     memcpy(of.div_data, div_data, PLAID_DIV_DATA);
+    of.record_length = record_length;
     registers r = accept_words(of, response, response_len, work, work_len);
     CHECK(sizeof a == sizeof r);
     memcpy(&a, &r, sizeof a);
@@ -669,13 +706,13 @@ static plaid_part record_part(const uint8_t *work, size_t work_len, plaid_accept
     return p;
 }
 
-/* The final answer of the card under the longest payload, in c's output; distinct counts. */
-static plaid_outcome final_answer(const load_case *l, call_case *c)
+/* The final answer of the card for a mode under the longest payload, in c's output; distinct counts. */
+static plaid_outcome final_answer(const load_case *l, size_t mode, call_case *c)
 {
     call_case first = initial_call(l->sets[5].id);
     plaid_card card = call(load(l).card, &first).card;
     uint8_t command[PLAID_FINAL_COMMAND_MOST];
-    plaid_sealed s = plaid_seal(sealing_of(l), payload, PLAID_PAYLOAD, command, sizeof command);
+    plaid_sealed s = plaid_seal(sealing_of(l, mode), payload, PLAID_PAYLOAD, command, sizeof command);
     plaid_outcome o[2];
     *c = call_of(command, s.length);
     c->out_len = sizeof c->out;
@@ -688,7 +725,7 @@ static void session(void)
 {
     load_case l = full_load();
     call_case c;
-    plaid_outcome o = final_answer(&l, &c);
+    plaid_outcome o = final_answer(&l, 3, &c);
     uint8_t work[PLAID_ANSWER_FINAL_MOST];
     size_t record = l.given.modes[3].len;
     CHECK(o.answer.number == PLAID_DONE && o.answer.status == PLAID_ANSWER_OK && o.answer.handle == 0);
@@ -697,7 +734,7 @@ static void session(void)
     check_card(&o.card, &l);
     CHECK(all(c.out + 80, sizeof c.out - 80, CANARY));
     memset(work, CANARY, sizeof work);
-    plaid_accepted a = accept(l.given.div_data, c.out, 80, work, sizeof work);
+    plaid_accepted a = accept(l.given.div_data, record, c.out, 80, work, sizeof work);
     CHECK(a.number == PLAID_DONE && a.length == record);
     plaid_part p = record_part(work, sizeof work, a);
     CHECK(p.start == 0 && p.length == record);
@@ -706,25 +743,87 @@ static void session(void)
     CHECK(all(work + 80, sizeof work - 80, CANARY));
 }
 
+/* What Accept has to make of an answer of so many bytes with this body, told a length: its front, or 20 and zeros. */
+static void check_accepted(const load_case *l, const uint8_t *answer, size_t length, const uint8_t *body, size_t body_len, size_t told)
+{
+    uint8_t work[PLAID_ANSWER_FINAL_MOST], wanted[PLAID_ANSWER_FINAL_MOST];
+    bool good = told > 0 && told <= body_len;
+    memset(work, CANARY, sizeof work);
+    memset(wanted, CANARY, sizeof wanted);
+    memset(wanted, 0, length);
+    if (good) {
+        memcpy(wanted, body, body_len);
+        memcpy(wanted + body_len, l->given.div_data, PLAID_DIV_DATA);
+        wanted[body_len + PLAID_DIV_DATA] = 0x80;
+    }
+    plaid_accepted a = accept(l->given.div_data, told, answer, length, work, sizeof work);
+    plaid_part p = record_part(work, sizeof work, a);
+    CHECK(a.number == (good ? PLAID_DONE : PLAID_DECLINE_AUTHENTICATION) && a.length == (good ? told : 0));
+    CHECK(p.start == 0 && p.length == a.length);
+    CHECK(memcmp(work, wanted, sizeof work) == 0);
+}
+
+/* A session for one mode: record and zeros up to 16 (B - 2) bytes; then the reader's length, right and wrong. */
+static void check_record(const load_case *l, size_t mode, size_t reply_size, size_t body_len)
+{
+    static const size_t wrong[] = {0, 65, 256, UINT32_MAX, (size_t)UINT32_MAX + 5, SIZE_MAX - 3, SIZE_MAX};
+    uint8_t body[PLAID_CARD_RECORD] = {0};
+    const plaid_mode *m = &l->given.modes[mode];
+    call_case c;
+    plaid_outcome o = final_answer(l, mode, &c);
+    CHECK(o.answer.status == PLAID_ANSWER_OK && o.answer.length == 16 * reply_size);
+    CHECK(counts_are(&o.answer, 16, 15, reply_size + 1, 3, 1));
+    CHECK(all(c.out + 16 * reply_size, sizeof c.out - 16 * reply_size, CANARY));
+    memcpy(body, l->area + m->start, m->len);
+    for (size_t told = 1; told <= PLAID_CARD_RECORD; told++)
+        check_accepted(l, c.out, 16 * reply_size, body, body_len, told);
+    for (size_t i = 0; i < LENGTH(wrong); i++)
+        check_accepted(l, c.out, 16 * reply_size, body, body_len, wrong[i]);
+}
+
+/* A Wiegand number and a UUID on one card, and other pairs: with filler, without, and a record that ends with zeros of its own. */
+static void unequal_sessions(void)
+{
+    load_case l = two_records(4, 16);
+    check_record(&l, 0, 3, 16);
+    check_record(&l, 1, 3, 16);
+    l = two_records(16, 4);
+    l.area[l.given.modes[1].start + 3] = 0;
+    check_record(&l, 0, 3, 16);
+    check_record(&l, 1, 3, 16);
+    l = two_records(15, PLAID_CARD_RECORD);
+    check_record(&l, 0, 6, 64);
+    check_record(&l, 1, 6, 64);
+    l = two_records(17, 31);
+    check_record(&l, 0, 3, 17);
+    check_record(&l, 1, 3, 31);
+    l = two_records(1, 32);
+    check_record(&l, 0, 4, 32);
+    l.given.mode_count = 1;
+    l.given.modes[0].len = 4;
+    check_record(&l, 0, 2, 4);
+}
+
 static void accept_declined(void)
 {
     load_case l = full_load();
     call_case c;
     uint8_t work[PLAID_ANSWER_FINAL_MOST];
-    final_answer(&l, &c);
+    size_t record = l.given.modes[3].len;
+    final_answer(&l, 3, &c);
     memset(work, CANARY, sizeof work);
-    CHECK(accept(l.given.div_data, c.out, 81, work, 0).number == PLAID_DECLINE_RESPONSE);
-    CHECK(accept(l.given.div_data, c.out, 80, work, 79).number == PLAID_DECLINE_WORK);
+    CHECK(accept(l.given.div_data, 0, c.out, 81, work, 0).number == PLAID_DECLINE_RESPONSE);
+    CHECK(accept(l.given.div_data, 0, c.out, 80, work, 79).number == PLAID_DECLINE_WORK);
     CHECK(all(work, sizeof work, CANARY));
-    plaid_accepted a = accept(l.given.shill_key, c.out, 80, work, 80);
+    plaid_accepted a = accept(l.given.shill_key, record, c.out, 80, work, 80);
     CHECK(a.number == PLAID_DECLINE_AUTHENTICATION && a.length == 0);
     CHECK(record_part(work, sizeof work, a).start == 0 && record_part(work, sizeof work, a).length == 0);
     CHECK(all(work, 80, 0) && all(work + 80, sizeof work - 80, CANARY));
-    CHECK(accept(l.given.shill_key, c.out, PLAID_ANSWER_FINAL_LEAST, work, sizeof work).number == PLAID_DECLINE_AUTHENTICATION);
-    CHECK(accept(l.given.shill_key, c.out, PLAID_ANSWER_FINAL_MOST, work, sizeof work).number == PLAID_DECLINE_AUTHENTICATION);
+    CHECK(accept(l.given.shill_key, record, c.out, PLAID_ANSWER_FINAL_LEAST, work, sizeof work).number == PLAID_DECLINE_AUTHENTICATION);
+    CHECK(accept(l.given.shill_key, record, c.out, PLAID_ANSWER_FINAL_MOST, work, sizeof work).number == PLAID_DECLINE_AUTHENTICATION);
     for (size_t n = 0; n <= 2 * PLAID_ANSWER_FINAL_MOST; n++) {
         bool known = n % 16 == 0 && n >= PLAID_ANSWER_FINAL_LEAST && n <= PLAID_ANSWER_FINAL_MOST;
-        unsigned number = accept(l.given.shill_key, c.out, n, work, sizeof work).number;
+        unsigned number = accept(l.given.shill_key, record, c.out, n, work, sizeof work).number;
         CHECK(number == (known ? PLAID_DECLINE_AUTHENTICATION : PLAID_DECLINE_RESPONSE));
     }
 }
@@ -755,6 +854,7 @@ int main(void)
     load_fields();
     load_order();
     load_counts();
+    load_unequal();
     load_records();
     initial_accepted();
     initial_refused();
@@ -765,6 +865,7 @@ int main(void)
     seal_fields();
     seal_declined();
     session();
+    unequal_sessions();
     accept_declined();
     record_parts();
     printf("%u passed, %u failed\n", passed, failed);

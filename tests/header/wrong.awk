@@ -3,18 +3,21 @@
 #   awk -v dir=DIR -f wrong.awk plaid.h
 #
 # constant: a constant is one more. stack: the same of the stack's figures, which tests/stack holds. swapped: two neighbouring fields of a
-# struct change places. typed: a field has another type. declared: a function takes one argument more.
+# struct change places. moved: the last of three or more stands first. typed: a field has another type. missing: one of several is left
+# out. declared: a function takes one argument more.
 
 { line[NR] = $0 }
 
-function write(kind, label, at, first, second,    folder, i) {
+# A copy in which the lines of `edit` stand for those of the header.
+function write(kind, label,    folder, i) {
     folder = dir "/" kind "-" (++count[kind])
     system("mkdir -p '" folder "'")
     for (i = 1; i <= NR; i++)
-        print(i == at ? first : i == at + 1 && second != "" ? second : line[i]) >(folder "/plaid.h")
+        print(i in edit ? edit[i] : line[i]) >(folder "/plaid.h")
     print label >(folder "/label")
     close(folder "/plaid.h")
     close(folder "/label")
+    split("", edit)
 }
 
 function other_type(of) {
@@ -28,28 +31,51 @@ function other_type(of) {
 
 function is_field(text) { return text ~ /^    [a-z][a-z0-9_]* [a-z][^;]*;/ }
 
+# A line with one word in the place of another.
+function with(at, old, new,    text) {
+    text = line[at]
+    sub(old, new, text)
+    return text
+}
+
+# The field at a line of the struct `inside`, whose first field stands at `first`.
+function field(at,    label, alone) {
+    label = inside ": " word[2]
+    alone = first == at && !is_field(line[at + 1])
+    edit[at] = with(at, word[1], other_type(word[1]))
+    write("typed", label)
+    if (!alone) {
+        edit[at] = ""
+        write("missing", label)
+    }
+    if (is_field(line[at + 1])) {
+        edit[at] = line[at + 1]
+        edit[at + 1] = line[at]
+        write("swapped", label " and the next")
+    } else if (at > first + 1) {
+        edit[first] = line[at] "\n" line[first]
+        edit[at] = ""
+        write("moved", label)
+    }
+}
+
 END {
     for (i = 1; i <= NR; i++) {
         split(line[i], word, " ")
         if (line[i] ~ /^typedef struct/) {
             inside = word[3]
+            first = i + 1
             continue
         }
         if (line[i] ~ /^}/) inside = ""
         if (inside != "" && is_field(line[i])) {
-            label = inside ": " word[2]
-            edited = line[i]
-            sub(word[1], other_type(word[1]), edited)
-            write("typed", label, i, edited)
-            if (is_field(line[i + 1])) write("swapped", label " and the next", i, line[i + 1], line[i])
+            field(i)
         } else if (line[i] ~ /^#define PLAID_[A-Z0-9_]+ [0-9]/) {
-            edited = line[i]
-            sub(" " word[3], " (" word[3] " + 1)", edited)
-            write(word[2] ~ /^PLAID_STACK_/ ? "stack" : "constant", word[2], i, edited)
+            edit[i] = with(i, " " word[3], " (" word[3] " + 1)")
+            write(word[2] ~ /^PLAID_STACK_/ ? "stack" : "constant", word[2])
         } else if (line[i] ~ /^plaid_[a-z]+ plaid_[a-z]+\(/) {
-            edited = line[i]
-            sub(/\(/, "(int more, ", edited)
-            write("declared", line[i], i, edited)
+            edit[i] = with(i, "\\(", "(int more, ")
+            write("declared", line[i])
         }
     }
 }

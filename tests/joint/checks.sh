@@ -54,12 +54,28 @@ load_line() {
     echo "load sets=${sets#,} modes=${modes#,} area=$area div=$(at DivData) shill_key=$(at 'ShillKey (AES)') shill_handle=$shill" \
         "=> number=0 reply_size=$((${#area} > 0 ? $(reply_size) : 0))"
 }
-# B, from the first record; all have the same.
-reply_size() { local record; record=$(at 'ACSRecord of mode 1'); echo $(((${#record} / 2 + 16) / 16 + 1)); }
+# B: the most blocks that a record needs with DivData and padding.
+reply_size() {
+    local i=1 b=0 record needed
+    while [ -n "${v[load/OpModeID of mode $i]-}" ]; do
+        record=${v[load/ACSRecord of mode $i]-}
+        needed=$(((${#record} / 2 + 16) / 16 + 1))
+        b=$((needed > b ? needed : b))
+        i=$((i + 1))
+    done
+    echo "$b"
+}
+# Zero bytes up to 16(B - 2) bytes with the record, or nothing.
+filler() {
+    local record size
+    record=$(of ACSRecord)
+    size=$((32 * ($(reply_size) - 2) - ${#record}))
+    [ "$size" -le 0 ] || zeros "$size"
+}
 
 # A session's six calls, each with the result that the file has.
 session_lines() {
-    local ids blocks='' i list command answer
+    local ids blocks='' i list command answer record
     list=$(of 'KeySetID list')
     for ((i = 0; i < ${#list}; i += 4)); do
         ids+=,$(decimal "${list:i:4}")
@@ -77,8 +93,9 @@ session_lines() {
     answer=$(of eSTR3)
     echo "call command=$command fresh=$(fresh "" "$(of PS)") out=256 => number=0 status=36864 length=$((${#answer} / 2)) handle=0" \
         "answer=$answer session=-"
-    echo "accept keyshash=$(of KeysHash) div=$(at DivData) response=$answer work=$(zeros ${#answer})" \
-        "=> number=0 record=$(of ACSRecord) work=$(of 'STR3 padded')"
+    record=$(of ACSRecord)
+    echo "accept keyshash=$(of KeysHash) div=$(at DivData) reclen=$((${#record} / 2)) response=$answer work=$(zeros ${#answer})" \
+        "=> number=0 record=$record work=$(of 'STR3 padded')"
 }
 # The place of a KeySetID in a list, counted from 0.
 place() { local i; for ((i = 0; i < ${#1}; i += 4)); do [ "${1:i:4}" != "$2" ] || { echo $((i / 4)); return; }; done; echo none; }
@@ -146,8 +163,10 @@ stranger_openssl() {
 # The formulas that only join or hash.
 str2() { printf '%s' "$(of OpModeID)$(of RND2)$(of Payload)$(of KeysHash)"; }
 session_joined() {
-    local data digest
+    local data digest zeros str3
     data=$(of eSTR2)
+    zeros=$(filler)
+    str3=$(of ACSRecord)$zeros$(at DivData)
     digest=$(binary "$(of RND1)$(of RND2)" | sha256sum | head -c 64)
     check STR1 "$(of STR1)" "$(of KeySetID)$(at DivData)$(of RND1)$(of RND1)"
     check EM "$(of EM)" "0002$(of PS)00$(of KeySetID)$(at DivData)$(of RND1)$(of RND1)"
@@ -158,8 +177,9 @@ session_joined() {
     check STR2 "$(of STR2)" "$(str2)"
     check 'STR2 padded' "$(of 'STR2 padded')" "$(padded "$(str2)")"
     check 'FA command' "$(of 'FA command')" "00860000$(printf '%02x' $((${#data} / 2)))${data}00"
-    check STR3 "$(of STR3)" "$(of ACSRecord)$(at DivData)"
-    check 'STR3 padded' "$(of 'STR3 padded')" "$(padded "$(of ACSRecord)$(at DivData)")"
+    check 'Payload of STR3' "$(of 'Payload of STR3')" "$zeros"
+    check STR3 "$(of STR3)" "$str3"
+    check 'STR3 padded' "$(of 'STR3 padded')" "$(padded "$str3")"
     check 'FA response' "$(of 'FA response')" "$(of eSTR3)9000"
 }
 stranger_joined() {

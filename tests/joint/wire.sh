@@ -77,7 +77,7 @@ turns() {
 # The other maker's card: a record of 16 bytes answered without padding, refusals of any length, a KeySetID that is not the entry's.
 answer_lines() {
     local section='session 1' start size short response
-    start="accept keyshash=$(of KeysHash) div=$(at DivData)"
+    start="accept keyshash=$(of KeysHash) div=$(at DivData) reclen=16"
     short=$(of eSTR3)
     says "answer: unpadded, 32 bytes" "$start response=${short:0:64} work=$(of 'STR3 padded')" "number=20 record=- work=$(zeros 64)80$(zeros 30)"
     for size in 0 16 50 112 256; do
@@ -87,10 +87,23 @@ answer_lines() {
     says "block: another set's KeySetID" "open ids=2 blocks=$(of EM)" number=15
 }
 
+# Session 1's answer, whose body has 16 bytes, taken with other record lengths: what follows the record may be any bytes.
+length_lines() {
+    local section='session 1' record size
+    record=$(of ACSRecord)
+    for size in 1 4 15; do
+        says "record length $size" "$(taken "$size")" "number=0 record=${record:0:2*size} work=$(of 'STR3 padded')"
+    done
+    for size in 0 17 18446744073709551615; do
+        says "record length $size" "$(taken "$size")" "number=20 record=- work=$(zeros 96)"
+    done
+}
+taken() { echo "accept keyshash=$(of KeysHash) div=$(at DivData) reclen=$1 response=$(of eSTR3) work=$(of 'STR3 padded')"; }
+
 # As checks, for the calls above.
 wire_checks() {
     local section=load
-    { printf 'load\t%s\n' "$(load_line)"; frame_lines; list_lines; unpadded_final; turns; answer_lines; } >"$room/wire"
+    { printf 'load\t%s\n' "$(load_line)"; frame_lines; list_lines; unpadded_final; turns; answer_lines; length_lines; } >"$room/wire"
     cut -f 2 "$room/wire" >"$room/want"
     given >"$room/got"
     paste -d '\t' <(sed 's/\t.*//; s/^/wire: /' "$room/wire") "$room/want" "$room/got"

@@ -1,4 +1,4 @@
-//! The card of document 01.
+//! The card of document 01, with T-01: records of several lengths on one card.
 
 use crate::aes::{self, Block};
 use crate::fault::Fault;
@@ -60,12 +60,28 @@ pub fn has_repeated<T: PartialEq>(mut items: impl Iterator<Item = T> + Clone) ->
     std::iter::from_fn(|| items.next().map(|item| items.clone().any(|other| other == item))).any(|repeated| repeated)
 }
 
-/// B = floor((record length + 16)/16) + 1.
+/// The blocks that a record needs: floor((record length + 16)/16) + 1.
 pub fn reply_size(record: usize) -> usize {
     (record + 16) / 16 + 1
 }
 
-pub fn load(given: &Given) -> Result<Card, Decline> {
+/// B: the largest that any record needs.
+fn largest_reply(modes: &[Mode], fault: Fault) -> usize {
+    let mut needed = modes.iter().map(|m| reply_size(m.len));
+    let b = match fault {
+        Fault::FirstModeGivesB => needed.next(),
+        Fault::LastModeGivesB => needed.last(),
+        _ => needed.max(),
+    };
+    b.unwrap_or(0)
+}
+
+/// Where the last filler byte ends: 16(B - 2).
+pub fn filled(reply_size: usize) -> usize {
+    16 * (reply_size - 2)
+}
+
+pub fn load(given: &Given, fault: Fault) -> Result<Card, Decline> {
     decline_if(given.sets.is_empty(), 1, "no key set")?;
     decline_if(given.sets.len() > 8, 1, "over 8 key sets")?;
     decline_if(has_repeated(given.sets.iter().map(|s| s.id)), 2, "repeated KeySetID")?;
@@ -78,9 +94,7 @@ pub fn load(given: &Given) -> Result<Card, Decline> {
     decline_if(given.modes.iter().any(|m| m.len > 64), 6, "a record over 64")?;
     let inside = |m: &Mode| m.start.checked_add(m.len).is_some_and(|end| end <= given.area.len());
     decline_if(!given.modes.iter().all(inside), 6, "a record outside the area")?;
-    let reply_size = reply_size(given.modes[0].len);
-    decline_if(given.modes.iter().any(|m| self::reply_size(m.len) != reply_size), 7, "unequal B")?;
-    Ok(Card { given: given.clone(), reply_size, session: None })
+    Ok(Card { given: given.clone(), reply_size: largest_reply(&given.modes, fault), session: None })
 }
 
 /// A command call's answer. `why` says for the statistics which rule decided; it is no part of the answer.
@@ -215,10 +229,10 @@ fn final_command(card: &mut Card, data: &[u8], fresh: &[u8], out: &mut [u8], fau
         *work.hash(&[&rnd1, &text[2..18]].concat()).first_chunk().unwrap()
     };
     let mode = held_mode(card, u16::from_be_bytes([text[0], text[1]]), &mut work);
-    let why = verdict(card, data.len(), unpadded.map(|length| &text[..length]), &keys_hash, mode);
-    let (key, plain) = match mode {
-        Some(mode) if why == ACCEPTED => (keys_hash, reply(card, mode, fault)),
-        _ => (card.given.shill_key, fresh[..16 * card.reply_size].to_vec()),
+    let refused = refusal(card, data.len(), unpadded.map(|length| &text[..length]), &keys_hash, mode);
+    let (key, plain, why) = match (refused, mode) {
+        (None, Some(mode)) => (keys_hash, reply(card, mode, fault), accepted(card, mode)),
+        (why, _) => (card.given.shill_key, fresh[..16 * card.reply_size].to_vec(), why.unwrap_or_default()),
     };
     let keys = work.expand(&key);
     let answer = aes::cbc_encipher([0; 16], &plain, |block| work.encipher(&key, &keys, block));
@@ -240,16 +254,33 @@ fn held_mode(card: &Card, id: u16, work: &mut Work) -> Option<Mode> {
     found
 }
 
-/// Record and DivData, padded.
-fn reply(card: &Card, mode: Mode, fault: Fault) -> Vec<u8> {
-    let record = &card.given.area[mode.start..mode.start + mode.len];
-    padding::padded(&[record, &card.given.div_data].concat(), fault)
+/// The record, and zero bytes up to 16(B - 2) bytes in all.
+fn body(card: &Card, mode: Mode, fault: Fault) -> Vec<u8> {
+    let record = &card.given.area[mode.start..][..mode.len];
+    let end = filled(card.reply_size).saturating_sub(usize::from(fault == Fault::FillerByteShort));
+    let repeats = fault == Fault::FillerRepeatsRecord;
+    let filler = (mode.len..end).map(|at| if repeats { record[at % mode.len] } else { 0 });
+    record.iter().copied().chain(filler).collect()
 }
 
-const ACCEPTED: &str = "final accepted";
+/// Body and DivData, padded.
+fn reply(card: &Card, mode: Mode, fault: Fault) -> Vec<u8> {
+    padding::padded(&[&body(card, mode, fault)[..], &card.given.div_data].concat(), fault)
+}
 
-/// Accepted exactly when all of these hold. Where one alone fails, it is named.
-fn verdict(card: &Card, lc: usize, text: Option<&[u8]>, keys_hash: &Block, mode: Option<Mode>) -> &'static str {
+fn accepted(card: &Card, mode: Mode) -> &'static str {
+    if mode.len < filled(card.reply_size) { "final accepted, with filler" } else { "final accepted, no filler" }
+}
+
+/// `None` if all rules hold. A rule that alone is broken is named.
+pub fn broken(rules: &[(bool, &'static str)], several: &'static str) -> Option<&'static str> {
+    let mut broken = rules.iter().filter(|(holds, _)| !holds).map(|(_, why)| *why);
+    let first = broken.next()?;
+    Some(if broken.next().is_none() { first } else { several })
+}
+
+/// Accepted exactly when all of these hold.
+fn refusal(card: &Card, lc: usize, text: Option<&[u8]>, keys_hash: &Block, mode: Option<Mode>) -> Option<&'static str> {
     let rules = [
         (card.session.is_some(), "final refused: no session alone"),
         (lc % 16 == 0, "final refused: Lc alone"),
@@ -258,10 +289,5 @@ fn verdict(card: &Card, lc: usize, text: Option<&[u8]>, keys_hash: &Block, mode:
         (text.is_none_or(|t| t.ends_with(keys_hash)), "final refused: KeysHash alone"),
         (mode.is_some(), "final refused: mode alone"),
     ];
-    let mut broken = rules.iter().filter(|(holds, _)| !holds).map(|(_, why)| *why);
-    match (broken.next(), broken.next()) {
-        (None, _) => ACCEPTED,
-        (Some(why), None) => why,
-        _ => "final refused: several",
-    }
+    broken(&rules, "final refused: several")
 }

@@ -8,7 +8,7 @@ use crate::fault::{Fault, TRAPS};
 use crate::generate::{self, Case};
 use crate::line::Line;
 use crate::meddle::{CHANGES, Meddled};
-use crate::outcomes::{Outcomes, kind};
+use crate::outcomes::Outcomes;
 use crate::published;
 use crate::random::Random;
 use crate::shrink::shrink;
@@ -62,7 +62,7 @@ impl<S: Side> Other<'_, S> {
         for line in &case.lines {
             let (wanted, got) = (see(&mut second, line, pattern), see(&mut other, line, pattern));
             run.tally.count(wanted == got);
-            run.outcomes.count(kind(&wanted.reply), second.why);
+            run.outcomes.count_reply(&wanted.reply, second.why);
             if wanted != got {
                 return None;
             }
@@ -137,7 +137,7 @@ fn shown(name: &str, run: &Run) -> bool {
     again.failed == 0 && (1..=FEW).contains(&again.passed) && transcript.contains("\n# with the fault: ")
 }
 
-/// Each of document 01's traps, and a change of each thing compared, has to be found.
+/// Each of document 01's traps and T-01's, and a change of each thing compared, has to be found.
 pub fn self_test(calls: usize, seed: u64) -> Tally {
     let mut traps = Tally::default();
     for (fault, trap) in TRAPS {

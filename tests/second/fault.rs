@@ -1,4 +1,5 @@
-//! Document 01's traps for the implementer, as switches. Only the self-test turns one on, to see that the comparison finds it.
+//! Document 01's traps for the implementer, and mistakes that T-01 invites, as switches. Only the self-test turns one on, to see that the
+//! comparison finds it.
 
 #[derive(Clone, Copy, PartialEq)]
 pub enum Fault {
@@ -8,13 +9,27 @@ pub enum Fault {
     WalkEndsAtMatch,
     HashSkippedAfterBadPadding,
     OldSessionStays,
+    FirstModeGivesB,
+    LastModeGivesB,
+    FillerByteShort,
+    FillerRepeatsRecord,
+    WholeBodyReturned,
+    LengthZeroAccepted,
+    ShorterBodyAccepted,
 }
 
-/// Each fault with the trap's words.
-pub const TRAPS: [(Fault, &str); 5] = [
+/// Each fault in words: document 01's traps, then T-01's.
+pub const TRAPS: [(Fault, &str); 12] = [
     (Fault::FullTextGetsNo80, "leaving out 0x80 when a text fills its blocks"),
     (Fault::WalkEndsAtMatch, "ending the list walk at the first match"),
     (Fault::SlotOrderWins, "taking card slot order over list order"),
     (Fault::HashSkippedAfterBadPadding, "skipping the hash after bad padding"),
     (Fault::OldSessionStays, "a second final command using the old session"),
+    (Fault::FirstModeGivesB, "taking B from the first mode"),
+    (Fault::LastModeGivesB, "taking B from the last mode"),
+    (Fault::FillerByteShort, "a filler that is one byte short"),
+    (Fault::FillerRepeatsRecord, "a filler that repeats the record"),
+    (Fault::WholeBodyReturned, "handing back the filler with the record"),
+    (Fault::LengthZeroAccepted, "accepting with record length 0"),
+    (Fault::ShorterBodyAccepted, "accepting a body one byte shorter than the record"),
 ];

@@ -45,7 +45,7 @@ fn follow(card: &mut Card, call: &Line) -> Vec<u8> {
 fn card_list(random: &mut Random) -> Vec<Line> {
     let given = load::good(random);
     let mut lines = vec![Line::Load(given.clone())];
-    if let Ok(mut card) = card::load(&given) {
+    if let Ok(mut card) = card::load(&given, Fault::None) {
         for _ in 0..random.between(1, 16) {
             let call = command::call(random, &card, &lines);
             follow(&mut card, &call);

@@ -1,4 +1,4 @@
-//! Writes the joint test, docs/JOINT-TEST.txt, to standard output: two sessions and what a stranger gets, all inputs fixed, every value
+//! Writes the joint test, docs/JOINT-TEST.txt, to standard output: three sessions and what a stranger gets, all inputs fixed, every value
 //! under the standard's name for it. The values are made by the standard's formulas, step by step; each message then has to be the one
 //! that the second implementation's card or reader makes. Needs rustc alone: `rustc --edition 2024 -O tests/second/joint.rs`.
 
@@ -31,10 +31,10 @@ use page::Page;
 const HEAD: &str = "\
 # PLAID (ISO/IEC 25185-1:2016): a joint test for two makers
 #
-# Two sessions between a reader and a card, and what a stranger gets from the
+# Three sessions between a reader and a card, and what a stranger gets from the
 # card. Give your card or reader the inputs; every other value has to come out.
-# Written by a program that follows document 01 (tests/second/joint.rs); no
-# value comes from ISO, whose own vectors (annex A) are in a file not at hand.
+# Written by a program that follows documents 01 and 02 (tests/second/joint.rs);
+# no value comes from ISO, whose vectors (annex A) are in a file not at hand.
 #
 # A line 'NAME: n bytes' is followed by the bytes, hexadecimal, 32 to a row; an
 # empty value is '-'. Names are those of the standard's clauses 4 to 6; n, e, d,
@@ -44,13 +44,16 @@ const HEAD: &str = "\
 # Where the standard is open, this is what the test takes:
 #   - a command is CLA INS P1 P2 Lc data Le, with Le 00
 #   - padding method 2 is always added, also to a text of whole blocks
-#   - STR3 has no Payload
+#   - STR3 padded has B blocks for every ACSRecord of a card, as many as the
+#     longest needs. The Payload of STR3 is zero bytes that bring ACSRecord to
+#     16(B - 2) bytes, none where it has as many
+#   - the reader knows by OpModeID how long ACSRecord is, and takes no more
 #   - IV is 16 zero bytes, for each message anew
 #   - the random string of a refused answer is as long as what it stands for:
 #     STR1, or STR3 padded; the second is enciphered without padding";
 
 fn load(page: &mut Page, inputs: &Inputs) {
-    page.section("load", "The card holds two key sets, both with one IAKey (6.4 d), and two modes.");
+    page.section("load", "The card holds two key sets, both with one IAKey (6.4 d), and three modes.");
     for (place, set) in inputs.load.sets.iter().enumerate() {
         page.input(&format!("KeySetID of set {}", place + 1), &set.id.to_be_bytes());
         page.input(&format!("FAKey of set {}", place + 1), &set.fa_key);

@@ -2,7 +2,7 @@
 
 use crate::aes::Block;
 use crate::card::{Given, KeySet, Mode};
-use crate::reader::Sealing;
+use crate::reader::{Accepting, Sealing};
 
 #[derive(Clone, PartialEq)]
 pub enum Line {
@@ -13,7 +13,7 @@ pub enum Line {
     List { ids: Vec<u16>, out: usize },
     Open { ids: Vec<u16>, blocks: Vec<u8> },
     Seal { of: Sealing, payload: Vec<u8>, out: usize },
-    Accept { keys_hash: Block, div_data: Block, response: Vec<u8>, work: Vec<u8> },
+    Accept { of: Accepting, response: Vec<u8>, work: Vec<u8> },
 }
 
 /// One argument of a line, by the way in which it can be made simpler.
@@ -43,8 +43,8 @@ impl Line {
             Line::Seal { of: Sealing { fa_key, div_data, rnd1, rnd2, mode }, payload, out } => {
                 vec![Bytes(payload), Block(fa_key), Block(div_data), Block(rnd1), Block(rnd2), Id(mode), Size(out)]
             }
-            Line::Accept { keys_hash, div_data, response, work } => {
-                vec![Bytes(response), Block(keys_hash), Block(div_data), Bytes(work)]
+            Line::Accept { of: Accepting { keys_hash, div_data, record_length }, response, work } => {
+                vec![Bytes(response), Block(keys_hash), Block(div_data), Size(record_length), Bytes(work)]
             }
         }
     }

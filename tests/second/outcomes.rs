@@ -1,19 +1,18 @@
 //! How often each outcome that document 01 names came up, so that the generator cannot become weak unseen.
 
-use std::collections::BTreeMap;
+use std::collections::{BTreeMap, BTreeSet};
 
 use crate::side::Reply;
 
 /// The outcomes that have to come up: for each kind of call and number or status, the rules that decide.
-const REQUIRED: [(&str, &[&str]); 36] = [
-    ("load 0", &["loaded"]),
+const REQUIRED: [(&str, &[&str]); 40] = [
+    ("load 0", LOADED),
     ("load 1", &["no key set", "over 8 key sets"]),
     ("load 2", &["repeated KeySetID"]),
     ("load 3", &["a set with the shill handle"]),
     ("load 4", &["no mode", "over 16 modes"]),
     ("load 5", &["repeated OpModeID"]),
     ("load 6", &["area over 1,024", "a record empty", "a record over 64", "a record outside the area"]),
-    ("load 7", &["unequal B"]),
     ("call 8", &["fresh bytes not 253"]),
     ("call 9", &["a zero pad byte"]),
     ("call 10", &["output below 256"]),
@@ -27,6 +26,10 @@ const REQUIRED: [(&str, &[&str]); 36] = [
     ("call 9000, 64 bytes", FINAL),
     ("call 9000, 80 bytes", FINAL),
     ("call 9000, 96 bytes", FINAL),
+    ("call 9000, 48 bytes", FILLED),
+    ("call 9000, 64 bytes", FILLED),
+    ("call 9000, 80 bytes", FILLED),
+    ("call 9000, 96 bytes", FILLED),
     ("list 0", &["listed"]),
     ("list 11", &["no KeySetID", "over 16 KeySetIDs"]),
     ("list 12", &["repeated KeySetID"]),
@@ -37,16 +40,26 @@ const REQUIRED: [(&str, &[&str]); 36] = [
     ("seal 0", &["sealed"]),
     ("seal 16", &["payload over 205"]),
     ("seal 17", &["output below Lc + 6"]),
-    ("accept 0", &["accepted"]),
+    ("accept 0", ACCEPTED),
     ("accept 18", &["length not 32, 48, 64, 80 or 96"]),
     ("accept 19", &["work buffer shorter than the response"]),
     ("accept 20", &["padding", "body empty alone", "body over 64 alone", "DivData alone"]),
+    ("accept 20", &["record length 0 alone", "body shorter than the record alone", "several"]),
     ("session", &["ended as promised", "without promise"]),
+];
+
+/// Of a load: where the largest B stands.
+const LOADED: &[&str] = &[
+    "loaded, every record's B the same",
+    "loaded, largest B first",
+    "loaded, largest B first and last",
+    "loaded, largest B last",
+    "loaded, largest B between",
 ];
 
 /// Of a final command, for each B. `alone`: all other conditions held.
 const FINAL: &[&str] = &[
-    "final accepted",
+    "final accepted, no filler",
     "final refused: no session alone",
     "final refused: Lc alone",
     "final refused: padding alone",
@@ -56,20 +69,37 @@ const FINAL: &[&str] = &[
     "final refused: several",
 ];
 
+/// For each B but 2, with which no record is too short.
+const FILLED: &[&str] = &["final accepted, with filler"];
+
+const ALONE: &str = "accepted, record alone";
+const ACCEPTED: &[&str] = &[ALONE, "accepted, zero bytes behind the record", "accepted, other bytes behind the record"];
+
 #[derive(Default)]
-pub struct Outcomes(BTreeMap<(String, &'static str), usize>);
+pub struct Outcomes {
+    counts: BTreeMap<(String, &'static str), usize>,
+    /// The lengths of the bodies that Accept handed back whole.
+    bodies: BTreeSet<usize>,
+}
 
 impl Outcomes {
     pub fn count(&mut self, kind: String, why: &'static str) {
-        *self.0.entry((kind, why)).or_default() += 1;
+        *self.counts.entry((kind, why)).or_default() += 1;
+    }
+
+    pub fn count_reply(&mut self, reply: &Reply, why: &'static str) {
+        self.count(kind(reply), why);
+        if let (Reply::Accept { length, .. }, ALONE) = (reply, why) {
+            self.bodies.insert(*length);
+        }
     }
 
     /// A line for each kind.
     pub fn print(&self) {
-        let mut kinds: Vec<&String> = self.0.keys().map(|(kind, _)| kind).collect();
+        let mut kinds: Vec<&String> = self.counts.keys().map(|(kind, _)| kind).collect();
         kinds.dedup();
         for kind in kinds {
-            let of_kind = self.0.iter().filter(|((k, _), _)| k == kind);
+            let of_kind = self.counts.iter().filter(|((k, _), _)| k == kind);
             println!("  {kind}: {}", of_kind.map(|((_, why), count)| format!("{count} {why}")).collect::<Vec<_>>().join("; "));
         }
     }
@@ -77,12 +107,14 @@ impl Outcomes {
     /// The required outcomes that never came up.
     pub fn missing(&self) -> Vec<String> {
         let required = REQUIRED.iter().flat_map(|(kind, rules)| rules.iter().map(|why| (kind.to_string(), *why)));
-        required.filter(|outcome| !self.0.contains_key(outcome)).map(|(kind, why)| format!("{kind}: {why}")).collect()
+        let missing = required.filter(|outcome| !self.counts.contains_key(outcome)).map(|(kind, why)| format!("{kind}: {why}"));
+        let lengths = (1..=64).filter(|length| !self.bodies.contains(length)).map(|length| format!("accept 0: a body of {length}"));
+        missing.chain(lengths).collect()
     }
 }
 
 /// The kind of call with its number or status, and the answer's length where there is one.
-pub fn kind(reply: &Reply) -> String {
+fn kind(reply: &Reply) -> String {
     match reply {
         Reply::Load { number, .. } => format!("load {number}"),
         Reply::Call { number: 0, status, length: 0, .. } => format!("call {status:04x}"),

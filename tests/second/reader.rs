@@ -1,7 +1,7 @@
-//! The reader of document 01.
+//! The reader of document 01, with T-01: Accept gets the record's length.
 
 use crate::aes::{self, Block};
-use crate::card::{Decline, decline_if, has_repeated};
+use crate::card::{Decline, broken, decline_if, has_repeated};
 use crate::fault::Fault;
 use crate::padding;
 use crate::sha256;
@@ -97,25 +97,49 @@ pub fn seal(of: &Sealing, payload: &[u8], out: &mut [u8], fault: Fault) -> Resul
     Ok((command.len(), keys_hash(&of.rnd1, &of.rnd2)))
 }
 
-/// Deciphers into the work buffer; gives the length of the part in front of DivData.
-pub fn accept(keys_hash: &Block, div_data: &Block, response: &[u8], work: &mut [u8]) -> Result<usize, Decline> {
-    decline_if(![32, 48, 64, 80, 96].contains(&response.len()), 18, "length not 32, 48, 64, 80 or 96")?;
-    decline_if(work.len() < response.len(), 19, "work buffer shorter than the response")?;
-    let keys = aes::expand(keys_hash);
-    let text = aes::cbc_decipher([0; 16], response, |block| aes::decipher(&keys, block));
-    let body = authenticated(&text, div_data);
-    let shown = if body.is_ok() { text } else { vec![0; response.len()] };
-    work[..response.len()].copy_from_slice(&shown);
-    body
+/// What Accept takes beside the response.
+#[derive(Clone, PartialEq)]
+pub struct Accepting {
+    pub keys_hash: Block,
+    pub div_data: Block,
+    pub record_length: usize,
 }
 
-/// The length of the body. The last 16 unpadded bytes must be DivData and 1 to 64 bytes must stand before them.
-fn authenticated(text: &[u8], div_data: &Block) -> Result<usize, Decline> {
-    let length = padding::unpadded_length(text).ok_or(Decline { number: 20, why: "padding" })?;
-    let body = length.checked_sub(16).ok_or(Decline { number: 20, why: "no room for DivData" })?;
-    let right = text[body..length] == div_data[..];
-    decline_if(body == 0, 20, if right { "body empty alone" } else { "body empty and DivData" })?;
-    decline_if(body > 64, 20, if right { "body over 64 alone" } else { "body over 64 and DivData" })?;
-    decline_if(!right, 20, "DivData alone")?;
-    Ok(body)
+/// Deciphers into the work buffer. Gives the length of the record, the buffer's first bytes; and for the statistics what stands behind it.
+pub fn accept(of: &Accepting, response: &[u8], work: &mut [u8], fault: Fault) -> Result<(usize, &'static str), Decline> {
+    decline_if(![32, 48, 64, 80, 96].contains(&response.len()), 18, "length not 32, 48, 64, 80 or 96")?;
+    decline_if(work.len() < response.len(), 19, "work buffer shorter than the response")?;
+    let keys = aes::expand(&of.keys_hash);
+    let text = aes::cbc_decipher([0; 16], response, |block| aes::decipher(&keys, block));
+    let body = authenticated(&text, of, fault).map_err(|why| Decline { number: 20, why });
+    let result = body.map(|body| (if fault == Fault::WholeBodyReturned { body } else { of.record_length }, behind(&text[..body], of)));
+    let shown = if result.is_ok() { text } else { vec![0; response.len()] };
+    work[..response.len()].copy_from_slice(&shown);
+    result
+}
+
+/// The length of the body, or why there is none. The last 16 unpadded bytes must be DivData, and 1 to 64 bytes must stand before them, no
+/// fewer than the record has. Where one rule alone is broken, it is named; no record length fits an empty body.
+fn authenticated(text: &[u8], of: &Accepting, fault: Fault) -> Result<usize, &'static str> {
+    let length = padding::unpadded_length(text).ok_or("padding")?;
+    let body = length.checked_sub(16).ok_or("no room for DivData")?;
+    let zero_taken = fault == Fault::LengthZeroAccepted;
+    let least = of.record_length.saturating_sub(usize::from(fault == Fault::ShorterBodyAccepted));
+    let rules = [
+        (body > 0, "body empty alone"),
+        (body <= 64, "body over 64 alone"),
+        (text[body..length] == of.div_data[..], "DivData alone"),
+        (of.record_length > 0 || body == 0 || zero_taken, "record length 0 alone"),
+        (body >= least || body == 0, "body shorter than the record alone"),
+    ];
+    broken(&rules, "several").map_or(Ok(body), Err)
+}
+
+/// What stands in the body behind the record; nobody looks at it.
+fn behind(body: &[u8], of: &Accepting) -> &'static str {
+    match body.get(of.record_length..) {
+        None | Some([]) => "accepted, record alone",
+        Some(filler) if filler.iter().all(|b| *b == 0) => "accepted, zero bytes behind the record",
+        Some(_) => "accepted, other bytes behind the record",
+    }
 }

@@ -7,7 +7,7 @@ use crate::card::{self, Card, Decline, Given, KeySet, Mode, Session};
 use crate::fault::Fault;
 use crate::line::Line;
 use crate::plaid;
-use crate::reader::{self, Sealing};
+use crate::reader::{self, Accepting, Sealing};
 use crate::work::Work;
 
 /// A card with every field of the library's struct.
@@ -87,6 +87,19 @@ fn image(card: &Card) -> Image {
     Image(to)
 }
 
+/// Where among the modes the largest B stands, for the statistics.
+fn largest(card: &Card) -> &'static str {
+    let has = |mode: &Mode| card::reply_size(mode.len) == card.reply_size;
+    let modes = &card.given.modes;
+    match (modes.iter().all(has), modes.first().is_some_and(has), modes.last().is_some_and(has)) {
+        (true, ..) => "loaded, every record's B the same",
+        (_, true, true) => "loaded, largest B first and last",
+        (_, true, _) => "loaded, largest B first",
+        (_, _, true) => "loaded, largest B last",
+        _ => "loaded, largest B between",
+    }
+}
+
 pub struct Second {
     pub card: Option<Card>,
     pub fault: Fault,
@@ -114,8 +127,9 @@ impl Second {
     }
 
     fn load(&mut self, given: &Given) -> Reply {
-        let (number, card) = self.decided(card::load(given), "loaded");
+        let (number, card) = self.decided(card::load(given, self.fault), "");
         self.card = card;
+        self.why = self.card.as_ref().map_or(self.why, largest);
         Reply::Load { number, card: self.card.as_ref().map_or(Image(BLANK), image), lists_kept: true }
     }
 
@@ -138,6 +152,13 @@ impl Second {
         let (length, keys_hash) = sealed.unwrap_or_default();
         Reply::Seal { number, length, keys_hash }
     }
+
+    fn accept(&mut self, of: &Accepting, response: &[u8], lent: &mut [u8]) -> Reply {
+        let (number, accepted) = self.decided(reader::accept(of, response, lent, self.fault), "");
+        let (length, why) = accepted.unwrap_or((0, self.why));
+        self.why = why;
+        Reply::Accept { number, length, part: 0..length }
+    }
 }
 
 impl Side for Second {
@@ -151,11 +172,7 @@ impl Side for Second {
             }
             Line::Open { ids, blocks } => self.open(ids, blocks),
             Line::Seal { of, payload, .. } => self.seal(of, payload, lent),
-            Line::Accept { keys_hash, div_data, response, .. } => {
-                let (number, length) = self.decided(reader::accept(keys_hash, div_data, response, lent), "accepted");
-                let length = length.unwrap_or(0);
-                Reply::Accept { number, length, part: 0..length }
-            }
+            Line::Accept { of, response, .. } => self.accept(of, response, lent),
         }
     }
 }
@@ -194,6 +211,13 @@ impl Library {
         let plaid::Sealed { number, length, keys_hash } = plaid::run_seal(sealing, payload, lent);
         Reply::Seal { number, length, keys_hash }
     }
+
+    fn accept(of: &Accepting, response: &[u8], lent: &mut [u8]) -> Reply {
+        let Accepting { keys_hash, div_data, record_length } = of.clone();
+        let accepted = plaid::run_accept(plaid::Accepting { keys_hash, div_data, record_length }, response, lent);
+        let plaid::Accepted { number, length } = accepted;
+        Reply::Accept { number, length, part: plaid::run_record(lent, accepted) }
+    }
 }
 
 impl Side for Library {
@@ -210,12 +234,7 @@ impl Side for Library {
                 Reply::Open { number, place, id, div_data, rnd1 }
             }
             Line::Seal { of, payload, .. } => Library::seal(of, payload, lent),
-            Line::Accept { keys_hash, div_data, response, .. } => {
-                let accepting = plaid::Accepting { keys_hash: *keys_hash, div_data: *div_data };
-                let accepted = plaid::run_accept(accepting, response, lent);
-                let plaid::Accepted { number, length } = accepted;
-                Reply::Accept { number, length, part: plaid::run_record(lent, accepted) }
-            }
+            Line::Accept { of, response, .. } => Library::accept(of, response, lent),
         }
     }
 }

@@ -7,7 +7,7 @@ use crate::card::{Given, KeySet, Mode};
 use crate::compare::Seen;
 use crate::line::Line;
 use crate::plaid;
-use crate::reader::Sealing;
+use crate::reader::{Accepting, Sealing};
 use crate::side::Reply;
 
 pub fn hex(bytes: &[u8]) -> String {
@@ -57,9 +57,9 @@ pub fn question(line: &Line) -> String {
             let keys = words("seal", &[("fakey", &hex(fa_key)), ("div", &hex(div_data)), ("rnd1", &hex(rnd1)), ("rnd2", &hex(rnd2))]);
             words(&keys, &[("mode", mode), ("payload", &hex(payload)), ("out", out)])
         }
-        Line::Accept { keys_hash, div_data, response, work } => {
-            let keys = words("accept", &[("keyshash", &hex(keys_hash)), ("div", &hex(div_data))]);
-            words(&keys, &[("response", &hex(response)), ("work", &hex(work))])
+        Line::Accept { of: Accepting { keys_hash, div_data, record_length }, response, work } => {
+            let of = words("accept", &[("keyshash", &hex(keys_hash)), ("div", &hex(div_data)), ("reclen", record_length)]);
+            words(&of, &[("response", &hex(response)), ("work", &hex(work))])
         }
     }
 }
@@ -154,9 +154,9 @@ pub fn parse(line: &str) -> Option<Line> {
         }
         "seal" => parse_seal(line),
         "accept" => {
-            let [hash, div, response, work] = values(line, ["keyshash", "div", "response", "work"])?;
-            let (keys_hash, div_data) = (block(hash)?, block(div)?);
-            Some(Line::Accept { keys_hash, div_data, response: bytes(response)?, work: bytes(work)? })
+            let [hash, div, length, response, work] = values(line, ["keyshash", "div", "reclen", "response", "work"])?;
+            let of = Accepting { keys_hash: block(hash)?, div_data: block(div)?, record_length: length.parse().ok()? };
+            Some(Line::Accept { of, response: bytes(response)?, work: bytes(work)? })
         }
         _ => None,
     }

@@ -57,7 +57,10 @@ static plaid_sealed sealed;
 static plaid_accepted accepted;
 static plaid_part part;
 
-/* A full load: eight key sets, sixteen modes with records of 64 bytes, so B = 6. */
+/* The mode whose record is followed by filler. */
+#define SHORT 14
+
+/* A full load: eight key sets, sixteen modes with records of 64 bytes but for one of a single byte, so B = 6. */
 static void given_load(void)
 {
     memset(&given, 0, sizeof given);
@@ -69,7 +72,7 @@ static void given_load(void)
     for (unsigned i = 0; i < LENGTH(given.modes); i++) {
         given.modes[i].id.value = (uint16_t)(0x0A00 + i);
         given.modes[i].start = PLAID_CARD_RECORD * i;
-        given.modes[i].len = PLAID_CARD_RECORD;
+        given.modes[i].len = i == SHORT ? 1 : PLAID_CARD_RECORD;
     }
     set_count = PLAID_CARD_KEY_SETS;
     given.mode_count = PLAID_CARD_MODES;
@@ -82,7 +85,7 @@ static void given_load(void)
 static void given_bad_handle(void) { given_load(); sets[7].handle = given.shill_handle; }
 static void given_bad_mode(void) { given_load(); given.modes[15].id = given.modes[0].id; }
 static void given_bad_record(void) { given_load(); given.modes[15].len = PLAID_CARD_RECORD + 1; }
-static void given_bad_size(void) { given_load(); given.modes[15].len = 1; }
+static void given_equal_sizes(void) { given_load(); given.modes[SHORT].len = PLAID_CARD_RECORD; }
 static void given_too_many(void) { given_load(); set_count = PLAID_CARD_KEY_SETS + 1; }
 
 /* The loaded card, and fresh bytes. */
@@ -114,29 +117,35 @@ static void given_malformed(void) { given_list(true); command[8] = 0x05; }
 static void given_zero_pad(void) { given_list(true); fresh[PLAID_FRESH - 1] = 0; }
 static void given_no_frame(void) { given_list(true); command_len = 3; }
 
-static void given_sealing(void)
+static void given_sealing(size_t mode)
 {
     memcpy(sealing.fa_key, sets[7].fa_key, PLAID_KEY);
     memcpy(sealing.div_data, given.div_data, PLAID_DIV_DATA);
     memcpy(sealing.rnd1, fresh, PLAID_RND);
     memset(sealing.rnd2, 0x62, PLAID_RND);
-    sealing.mode = given.modes[15].id;
+    sealing.mode = given.modes[mode].id;
 }
 
-/* A card in session, and the final command with a payload of so many bytes; KeysHash and DivData for Accept. */
-static void given_final(size_t payload_len)
+static void given_seal(void) { given_sealing(15); }
+
+/* A card in session, and the final command for a mode with a payload of so many bytes; what Accept is given. */
+static void given_final_of(size_t mode, size_t payload_len)
 {
     given_initial();
     card = plaid_command(card, command, command_len, fresh, sizeof fresh, out, sizeof out).card;
-    given_sealing();
+    given_sealing(mode);
     sealed = plaid_seal(sealing, payload, payload_len, command, sizeof command);
     command_len = sealed.length;
     memcpy(accepting.keys_hash, sealed.keys_hash, PLAID_KEYS_HASH);
     memcpy(accepting.div_data, given.div_data, PLAID_DIV_DATA);
+    accepting.record_length = given.modes[mode].len;
 }
+
+static void given_final(size_t payload_len) { given_final_of(15, payload_len); }
 
 static void given_longest_final(void) { given_final(PLAID_PAYLOAD); }
 static void given_shortest_final(void) { given_final(0); }
+static void given_filled_final(void) { given_final_of(SHORT, PLAID_PAYLOAD); }
 static void given_wrong_final(void) { given_final(PLAID_PAYLOAD); command[5] ^= 1; }
 static void given_bad_padding(void) { given_final(PLAID_PAYLOAD); command[244] ^= 1; }
 
@@ -178,15 +187,19 @@ static void given_blocks(void)
 
 static void given_no_block(void) { given_blocks(); blocks[sizeof blocks - 1] ^= 1; }
 
-/* The card's longest answer, 96 bytes. */
-static void given_response(void)
+/* The card's answer for a mode, 96 bytes: the longest. */
+static void given_response_of(size_t mode)
 {
-    given_longest_final();
+    given_final_of(mode, PLAID_PAYLOAD);
     plaid_command(card, command, command_len, fresh, sizeof fresh, out, sizeof out);
     memcpy(response, out, sizeof response);
 }
 
+static void given_response(void) { given_response_of(15); }
+static void given_filled_response(void) { given_response_of(SHORT); }
 static void given_wrong_response(void) { given_response(); response[95] ^= 1; }
+static void given_longer_record(void) { given_response(); accepting.record_length = PLAID_CARD_RECORD + 1; }
+static void given_empty_record(void) { given_response(); accepting.record_length = 0; }
 
 static void given_record(void) { given_response(); accepted = plaid_accept(accepting, response, 96, work, 96); }
 static void given_no_record(void) { given_wrong_response(); accepted = plaid_accept(accepting, response, 96, work, 96); }
@@ -219,12 +232,12 @@ static bool answered(size_t length)
 
 /* c(FUNCTION, the path's name, what is given, the call, whether it took that path) */
 #define CALLS \
-    LOADS(load_accepted, given_load, loaded.number == PLAID_DONE) \
+    LOADS(load_accepted, given_load, loaded.number == PLAID_DONE && loaded.card.reply_size == 6) \
     LOADS(load_refused_1, given_too_many, loaded.number == PLAID_DECLINE_KEY_SET_COUNT) \
     LOADS(load_refused_3, given_bad_handle, loaded.number == PLAID_DECLINE_SHILL_HANDLE) \
     LOADS(load_refused_5, given_bad_mode, loaded.number == PLAID_DECLINE_MODE_REPEATED) \
     LOADS(load_refused_6, given_bad_record, loaded.number == PLAID_DECLINE_RECORD) \
-    LOADS(load_refused_7, given_bad_size, loaded.number == PLAID_DECLINE_REPLY_SIZE) \
+    LOADS(load_equal_sizes, given_equal_sizes, loaded.number == PLAID_DONE && loaded.card.reply_size == 6) \
     RUNS(declined_8, given_initial, PLAID_FRESH - 1, PLAID_OUTPUT, outcome.answer.number == PLAID_DECLINE_FRESH_COUNT) \
     RUNS(declined_9, given_zero_pad, PLAID_FRESH, PLAID_OUTPUT, outcome.answer.number == PLAID_DECLINE_PAD_BYTE) \
     RUNS(declined_10, given_initial, PLAID_FRESH, PLAID_OUTPUT - 1, outcome.answer.number == PLAID_DECLINE_OUTPUT) \
@@ -234,6 +247,7 @@ static bool answered(size_t length)
     RUNS(initial_malformed, given_malformed, PLAID_FRESH, PLAID_OUTPUT, answered(256) && !outcome.card.session.opened) \
     RUNS(final_accepted, given_longest_final, PLAID_FRESH, PLAID_OUTPUT, command[4] == 240 && answered(96) && taken()) \
     RUNS(final_accepted_48, given_shortest_final, PLAID_FRESH, PLAID_OUTPUT, command[4] == 48 && answered(96) && taken()) \
+    RUNS(final_accepted_filled, given_filled_final, PLAID_FRESH, PLAID_OUTPUT, command[4] == 240 && answered(96) && taken()) \
     RUNS(final_refused, given_wrong_final, PLAID_FRESH, PLAID_OUTPUT, command[4] == 240 && answered(96) && !taken()) \
     RUNS(final_bad_padding, given_bad_padding, PLAID_FRESH, PLAID_OUTPUT, command[4] == 240 && answered(96) && !taken()) \
     RUNS(final_refused_255, given_most_final, PLAID_FRESH, PLAID_OUTPUT, card.session.opened && answered(96) && !taken()) \
@@ -245,12 +259,15 @@ static bool answered(size_t length)
     c(OPEN, opened_last, given_blocks, open_at(&opened, ids, blocks, sizeof blocks), opened.number == PLAID_DONE && opened.place == 15) \
     c(OPEN, none_opens, given_no_block, open_at(&opened, ids, blocks, sizeof blocks), opened.number == PLAID_DECLINE_NONE_OPENS) \
     c(OPEN, declined_14, given_blocks, open_at(&opened, ids, blocks, 1), opened.number == PLAID_DECLINE_BLOCKS) \
-    c(SEAL, sealed_most, given_sealing, seal_at(&sealed, sealing, payload, PLAID_PAYLOAD, out, sizeof out), sealed.length == 246) \
-    c(SEAL, sealed_least, given_sealing, seal_at(&sealed, sealing, payload, 0, out, sizeof out), sealed.length == 54) \
-    c(SEAL, declined_16, given_sealing, seal_at(&sealed, sealing, payload, 206, out, sizeof out), sealed.number == PLAID_DECLINE_PAYLOAD) \
-    c(SEAL, declined_17, given_sealing, seal_at(&sealed, sealing, payload, 0, out, 53), sealed.number == PLAID_DECLINE_SEAL_OUTPUT) \
+    c(SEAL, sealed_most, given_seal, seal_at(&sealed, sealing, payload, PLAID_PAYLOAD, out, sizeof out), sealed.length == 246) \
+    c(SEAL, sealed_least, given_seal, seal_at(&sealed, sealing, payload, 0, out, sizeof out), sealed.length == 54) \
+    c(SEAL, declined_16, given_seal, seal_at(&sealed, sealing, payload, 206, out, sizeof out), sealed.number == PLAID_DECLINE_PAYLOAD) \
+    c(SEAL, declined_17, given_seal, seal_at(&sealed, sealing, payload, 0, out, 53), sealed.number == PLAID_DECLINE_SEAL_OUTPUT) \
     c(ACCEPT, accepted_96, given_response, accepted = plaid_accept(accepting, response, 96, work, 96), accepted.length == PLAID_CARD_RECORD) \
     c(ACCEPT, refused_96, given_wrong_response, accepted = plaid_accept(accepting, response, 96, work, 96), accepted.number == 20) \
+    c(ACCEPT, accepted_filled, given_filled_response, accepted = plaid_accept(accepting, response, 96, work, 96), accepted.length == 1) \
+    c(ACCEPT, refused_longer, given_longer_record, accepted = plaid_accept(accepting, response, 96, work, 96), accepted.number == 20) \
+    c(ACCEPT, refused_empty, given_empty_record, accepted = plaid_accept(accepting, response, 96, work, 96), accepted.number == 20) \
     c(ACCEPT, declined_18, given_response, accepted = plaid_accept(accepting, response, 33, work, 96), accepted.number == 18) \
     c(ACCEPT, declined_19, given_response, accepted = plaid_accept(accepting, response, 96, work, 95), accepted.number == 19) \
     c(RECORD, record_part, given_record, part = plaid_record(work, sizeof work, accepted), part.length == PLAID_CARD_RECORD) \

@@ -1,24 +1,27 @@
--- The edges of document 01 that are marked P, as one list of statements. Each speaks of what the operations hand back: a load, a command call, Seal,
--- unpadding. `EdgesHold` has the one theorem that all of them hold.
+-- The edges of document 01 that are marked P, and those of T-01, as one list of statements. Each speaks of what the operations hand back: a load, a
+-- command call, Seal, unpadding. `EdgesHold` has the one theorem that all of them hold.
 use mathlib.Core.Path.{_≡_}
 use mathlib.Core.Bool.{true, false}
-use mathlib.Core.List.{List, [], _∷_, _++_}
+use mathlib.Core.List.{List, [], _∷_, _++_, map}
 use Prim.Native.Nat.{ℕ, _+_, _/_, _%_, _<_, _≤_}
-use lib.ListN.{length, getD, drop, replicate}
+use lib.ListN.{length, getD, take, drop, replicate}
 use Rattle.octets.specs.Lists.{part}
 use Rattle.aes.specs.Aes.{aes}
 use Rattle.cbc.specs.Cbc.{zeros, encrypted}
-use Rattle.padding.specs.Method2.{rightly, unpadded}
+use Rattle.padding.specs.Method2.{padded, rightly, unpadded}
 use Rattle.padding.specs.declared.Unpadded.the-variants.{Text, Malformed}
 use Rattle.plaid_types.specs.Cards.{noSession, withSession}
 use Rattle.plaid_types.specs.declared.OpModeId.{OpModeId}
+use Rattle.plaid_types.specs.declared.Mode.{Mode}
 use Rattle.plaid_types.specs.declared.Session.{Session}
 use Rattle.plaid_types.specs.declared.Card.{Card}
 use Rattle.load.specs.Load.{pastSet, pastMode}
-use Rattle.card.specs.Lists.{Call, outcomeOf, bytesOf, accepted}
+use Rattle.frame.specs.Frame.{dataOf}
+use Rattle.final_command.specs.Final.{textOf, keysHash, opMode}
+use Rattle.card.specs.Lists.{Call, cardAfter, outcomeOf, bytesOf, isInitial, accepted}
 use Rattle.reader_seal.specs.Seal.{sealedOf, sealOutput}
 use Rattle.reader_seal.specs.declared.Sealed.{Sealed}
-use Rattle.claims.specs.Load.{Load, cardOf}
+use Rattle.claims.specs.Load.{Load, cardOf, recordGiven}
 
 -- an edge about the successful loads with the property p: there is one, and q holds of each
 abbrev pub Of : (Load → Type 0) → (Load → Type 0) → Type 0
@@ -94,9 +97,30 @@ pub record Records (l : Load) (i n : ℕ) : Type 0 where
   pub within : i < l .given .«mode_count»
   pub size : getD (l .given .modes) i pastMode .len ≡ n
 
--- "record of n: B b"
+-- and none has more
+pub record Longest (l : Load) (n : ℕ) : Type 0 where
+  pub at : ℕ
+  pub has : Records l at n
+  pub others : (i m : ℕ) → Records l i m → m ≤ n
+
+-- "record of n: B b", by T-01 of the longest record
 abbrev pub Size : ℕ → ℕ → Type 0
-Size n b = Of (λ l. (i : ℕ) × Records l i n) (λ l. cardOf l .«reply_size» ≡ b)
+Size n b = Of (λ l. Longest l n) (λ l. cardOf l .«reply_size» ≡ b)
+
+-- the lengths of its records
+abbrev pub lengths : Load → List ℕ
+lengths l = map (λ (m : Mode). m .len) (take (l .given .«mode_count») (l .given .modes))
+
+-- T-01: B is b, and mode number i is answered with a body of n bytes: so every final command that is accepted behind any calls and names that mode,
+-- by the body, DivData and padding under KeysHash by CBC
+pub record Replies (l : Load) (i b n : ℕ) (body : List ℕ) : Type 0 where
+  pub size : cardOf l .«reply_size» ≡ b
+  pub long : length body ≡ n
+  pub answered :
+      (xs : List Call) (x : Call) → isInitial x ≡ false → accepted (cardAfter (cardOf l) xs) x ≡ true →
+      opMode (textOf (cardAfter (cardOf l) xs) (dataOf (x .command))) ≡ getD (l .given .modes) i pastMode .id →
+      bytesOf (cardAfter (cardOf l) xs) x ≡
+      encrypted (aes 4 (keysHash (cardAfter (cardOf l) xs) (dataOf (x .command)))) zeros b (padded (body ++ l .given .«div_data»))
 
 -- "payload p: Lc lc", of what Seal hands back and writes, for every payload of p bytes and every output with room for the command
 pub record SealedWith (lc : ℕ) (r : Sealed) (out : List ℕ) : Type 0 where
@@ -144,6 +168,12 @@ edges =
     -- "final, Lc 255, B 3: refused, n 15, 4 encipherments; Lc 1: n 0"
     Final 255 15 ∷
     Final 1 0 ∷
+    -- T-01: records of 4 and 16 bytes on one card give B 3, and the body of the first is its 4 bytes and 12 zero bytes
+    Of (λ l. lengths l ≡ 4 ∷ 16 ∷ []) (λ l. Replies l 0 3 16 (recordGiven l 0 ++ replicate 12 0)) ∷
+    -- records of 15 and 64: B 6, a body of 64
+    Of (λ l. lengths l ≡ 15 ∷ 64 ∷ []) (λ l. Replies l 0 6 64 (recordGiven l 0 ++ replicate 49 0) × Replies l 1 6 64 (recordGiven l 1)) ∷
+    -- one record of 4 alone: B 2, no filler
+    Of (λ l. lengths l ≡ 4 ∷ []) (λ l. Replies l 0 2 4 (recordGiven l 0)) ∷
     []
 
 -- every statement of a list holds

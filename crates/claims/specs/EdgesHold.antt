@@ -1,13 +1,13 @@
--- Every edge of document 01 that is marked P holds. Assumes nothing.
-use mathlib.Core.Path.{_≡_, refl, sym, ap, _∙_}
+-- Every edge of document 01 that is marked P, and every one of T-01, holds. Assumes nothing.
+use mathlib.Core.Path.{_≡_, refl, sym, subst, ap, ap₂, _∙_}
 use mathlib.Core.Bool.{Bool, true, false, cond}
-use mathlib.Core.List.{List, [], _∷_, _++_, append-assoc}
+use mathlib.Core.List.{List, [], _∷_, _++_, append-assoc, append-nil}
 use Prim.Native.Nat.{ℕ, zero, suc, _+_, _-_, _*_, _/_, _%_, _<_, _≤_}
 use native.Mathlib.Omega.{arith}
 use borrow.Author.Tests.{eq-eqb, ne-eqb, lt-ltb, le-ltb}
 use lib.Dec.{eqb, ltb}
-use lib.ListN.{length, getD, drop, replicate, length-append, length-drop, getD-replicate}
-use lib.Seq.{getD-drop, getD-append-add}
+use lib.ListN.{length, getD, take, drop, replicate, length-append, length-map, length-take, length-drop, length-replicate, getD-replicate, List·getD-map}
+use lib.Seq.{getD-drop, getD-take, getD-append-add}
 use Rattle.octets.specs.Lists.{part}
 use Rattle.octets.specs.Writes.{over-front}
 use Rattle.aes.specs.Aes.{aes}
@@ -18,17 +18,18 @@ use Rattle.padding.specs.declared.Unpadded.the-variants.{Text, Malformed}
 use Rattle.plaid_types.specs.Cards.{withSession, Reply}
 use Rattle.plaid_types.specs.declared.KeySetId.{KeySetId}
 use Rattle.plaid_types.specs.declared.KeySetSlot.{KeySetSlot}
+use Rattle.plaid_types.specs.declared.Mode.{Mode}
 use Rattle.plaid_types.specs.declared.ModeSlot.{ModeSlot}
 use Rattle.plaid_types.specs.declared.Session.{Session}
 use Rattle.plaid_types.specs.declared.Card.{Card}
-use Rattle.load.specs.Load.{pastMode, modeSlot, replySize, refusal, modesRefusal, loaded}
-use Rattle.load.specs.Laws.{modeAt, stocked-session}
+use Rattle.load.specs.Load.{pastMode, replySize, refusal, modesRefusal, loaded}
+use Rattle.load.specs.Laws.{size-below, stocked-session}
 use Rattle.frame.specs.Frame.{frameOf, initialIns, insOf, lcOf, whole, statusOf, dataOf}
 use Rattle.frame.specs.Laws.{frame-byte}
 use Rattle.frame.specs.Declines.{noZero, padBytes, verdict}
 use Rattle.list.specs.Ber.{lengthAt, entryAt, head, walked, listed, placeCount}
 use Rattle.initial.specs.Initial.{firstSlot, firstPlace, slotOf, acceptsInitial, str1, blockOf, initialReply}
-use Rattle.final_command.specs.Final.{decipheredText, keysHash, modeOf, accepting, acceptsFinal, finalReply}
+use Rattle.final_command.specs.Final.{decipheredText, keysHash, modeOf, accepting, acceptsFinal, bodyOf, finalReply}
 use Rattle.card.specs.Command.{replyTo, verdictOn, outcome, answerBytes}
 use Rattle.card.specs.Lists.{Call, outcomeOf, bytesOf, run, accepted, Shape, shapeOf, initialShape, finalShape, formulas}
 use Rattle.card.specs.Demand3.{Sound, list-formulas}
@@ -38,11 +39,12 @@ use Rattle.session_initial.specs.Held.{Holds, slot-holds, slot-missing}
 use Rattle.session_final.specs.SealFrame.{framed-status, framed-data}
 use Rattle.plaid.specs.Interface.{loadOf}
 use Rattle.session_final.specs.Reply.{refused-reply}
-use Rattle.claims.specs.Load.{Load, cardOf}
-use Rattle.claims.specs.Loaded.{is-a-load, sound, set-slot, slot-given, sets-most, mode-slot, div-given, key-given, handle-given}
-use Rattle.claims.specs.Loads.{set, given, area, load-of, one-key, two-keys}
+use Rattle.claims.specs.Load.{Load, cardOf, recordGiven, bodyGiven}
+use Rattle.claims.specs.Loaded.{is-a-load, sound, set-slot, slot-given, sets-most, mode-slot, record-long, size-given, div-given, key-given, handle-given}
+use Rattle.claims.specs.Loads.{set, mode, given, area, load-of, one-key, two-keys}
+use Rattle.claims.specs.Reply.{left, named-answer}
 use Rattle.claims.specs.Found.{held-there}
-use Rattle.claims.specs.Edges.{Of, OfAll, Gave, framed, Lent, EachCall, Answered, Refused, FinalRefused, Final, Records, Size, Seals, Good, Bad, edges, All, end, _and_}
+use Rattle.claims.specs.Edges.{Of, OfAll, Gave, framed, Lent, EachCall, Answered, Refused, FinalRefused, Final, Records, Longest, Size, lengths, Replies, Seals, Good, Bad, edges, All, end, _and_}
 
 -- a KeySetID by its number
 abbrev idOf : ℕ → KeySetId
@@ -53,21 +55,36 @@ sound-in : (l : Load) (s : Session) → length (s .rnd1) ≡ 16 → Sound (withS
 sound-in l s r = let k = sound l in record { sets = k .sets; modes = k .modes; div = k .div; rnd1 = r; size = k .size }
 
 -- loads with the properties of the edges
-load-15 : (l : Load) × Records l 0 15
-unfolding set given area load-of loadOf loaded refusal modesRefusal
-load-15 = (load-of (set 1 ∷ []) 0 15 (one-key 1 (omega arith)) refl, record { within = omega arith; size = refl })
+load-4 : (l : Load) × (lengths l ≡ 4 ∷ [])
+unfolding set mode given area load-of loadOf loaded refusal modesRefusal
+load-4 = (load-of (set 1 ∷ []) (mode 7 0 4 ∷ []) 0 4 (omega arith) (one-key 1 (omega arith)) refl, refl)
 
-load-16 : (l : Load) × (Records l 0 16 × Gave l 0 1)
-unfolding set given area load-of loadOf loaded refusal modesRefusal
-load-16 = (load-of (set 1 ∷ []) 0 16 (one-key 1 (omega arith)) refl, (record { within = omega arith; size = refl }, record { within = omega arith; id = refl }))
+load-15 : (l : Load) × (lengths l ≡ 15 ∷ [])
+unfolding set mode given area load-of loadOf loaded refusal modesRefusal
+load-15 = (load-of (set 1 ∷ []) (mode 7 0 15 ∷ []) 0 15 (omega arith) (one-key 1 (omega arith)) refl, refl)
 
-load-64 : (l : Load) × Records l 0 64
-unfolding set given area load-of loadOf loaded refusal modesRefusal
-load-64 = (load-of (set 1 ∷ []) 0 64 (one-key 1 (omega arith)) refl, record { within = omega arith; size = refl })
+load-16 : (l : Load) × ((lengths l ≡ 16 ∷ []) × Gave l 0 1)
+unfolding set mode given area load-of loadOf loaded refusal modesRefusal
+load-16 = (load-of (set 1 ∷ []) (mode 7 0 16 ∷ []) 0 16 (omega arith) (one-key 1 (omega arith)) refl, (refl, record { within = omega arith; id = refl }))
+
+load-64 : (l : Load) × (lengths l ≡ 64 ∷ [])
+unfolding set mode given area load-of loadOf loaded refusal modesRefusal
+load-64 = (load-of (set 1 ∷ []) (mode 7 0 64 ∷ []) 0 64 (omega arith) (one-key 1 (omega arith)) refl, refl)
+
+load-4-16 : (l : Load) × (lengths l ≡ 4 ∷ 16 ∷ [])
+unfolding set mode given area load-of loadOf loaded refusal modesRefusal
+load-4-16 = (load-of (set 1 ∷ []) (mode 7 0 4 ∷ mode 8 4 16 ∷ []) 4 16 (omega arith) (one-key 1 (omega arith)) refl, refl)
+
+load-15-64 : (l : Load) × (lengths l ≡ 15 ∷ 64 ∷ [])
+unfolding set mode given area load-of loadOf loaded refusal modesRefusal
+load-15-64 = (load-of (set 1 ∷ []) (mode 7 0 15 ∷ mode 8 15 64 ∷ []) 15 64 (omega arith) (one-key 1 (omega arith)) refl, refl)
 
 load-two : (l : Load) × (Gave l 0 2 × Gave l 1 5)
-unfolding set given area load-of loadOf loaded refusal modesRefusal
-load-two = (load-of (set 2 ∷ set 5 ∷ []) 0 16 (two-keys 2 5 (omega arith) (omega arith)) refl, (record { within = omega arith; id = refl }, record { within = omega arith; id = refl }))
+unfolding set mode given area load-of loadOf loaded refusal modesRefusal
+load-two = (
+  load-of (set 2 ∷ set 5 ∷ []) (mode 7 0 16 ∷ []) 0 16 (omega arith) (two-keys 2 5 (omega arith) (omega arith)) refl,
+  (record { within = omega arith; id = refl }, record { within = omega arith; id = refl }),
+)
 
 -- there are such fresh bytes and outputs
 pub some-lent : Lent (replicate 253 1) 256
@@ -255,16 +272,109 @@ unfolding statusOf whole frameOf dataOf part listed head walked entryAt lengthAt
 one-byte-edge =
     refuses (0x30 ∷ 3 ∷ 4 ∷ 1 ∷ 1 ∷ []) (record { frames = record { status = refl; data-is = refl }; slot = malformed-refused (0x30 ∷ 3 ∷ 4 ∷ 1 ∷ 1 ∷ []) refl })
 
+-- the records of a load by their lengths
+module _ (l : Load) where
+  counted-in : length (lengths l) ≤ l .given .«mode_count»
+  counted-in = omega (
+    arith,
+    length-map (take (l .given .«mode_count») (l .given .modes)) (λ (m : Mode). m .len),
+    length-take (l .given .«mode_count») (l .given .modes),
+  )
+
+  length-at : (i : ℕ) → i < l .given .«mode_count» → getD (lengths l) i 0 ≡ getD (l .given .modes) i pastMode .len
+  length-at i h =
+      List·getD-map (λ (m : Mode). m .len) (take (l .given .«mode_count») (l .given .modes)) i pastMode
+      ∙ ap (λ (m : Mode). m .len) (getD-take (l .given .«mode_count») (l .given .modes) i pastMode h)
+
+  records-at : (i n : ℕ) → i < length (lengths l) → getD (lengths l) i 0 ≡ n → Records l i n
+  records-at i n h e = let w : i < l .given .«mode_count» = omega (arith, counted-in) in record { within = w; size = sym (length-at i w) ∙ e }
+
+  longest-at : (i n : ℕ) → i < length (lengths l) → getD (lengths l) i 0 ≡ n → ((j : ℕ) → getD (lengths l) j 0 ≤ n) → Longest l n
+  longest-at i n h e f = record { at = i; has = records-at i n h e; others = λ j m r. omega (arith, f j, length-at j (r .within), r .size) }
+
+-- a load with one record, and with two of which the second is the longer
+one-most : (n i : ℕ) → getD (n ∷ []) i 0 ≤ n
+one-most n zero = omega arith
+one-most n (suc i) = omega arith
+
+two-most : (m n i : ℕ) → m ≤ n → getD (m ∷ n ∷ []) i 0 ≤ n
+two-most m n zero h = h
+two-most m n (suc i) h = one-most n i
+
+longest-one : (l : Load) (n : ℕ) → lengths l ≡ n ∷ [] → Longest l n
+longest-one l n e =
+    longest-at l 0 n (omega (arith, ap length e)) (ap (λ (s : List ℕ). getD s 0 0) e) (λ j. subst (λ (s : List ℕ). getD s j 0 ≤ n) (sym e) (one-most n j))
+
+longest-two : (l : Load) (m n : ℕ) → lengths l ≡ m ∷ n ∷ [] → m ≤ n → Longest l n
+longest-two l m n e h =
+    longest-at l 1 n (omega (arith, ap length e)) (ap (λ (s : List ℕ). getD s 1 0) e) (λ j. subst (λ (s : List ℕ). getD s j 0 ≤ n) (sym e) (two-most m n j h))
+
 -- "record of n: B b"
-module _ (l : Load) (i n : ℕ) (r : Records l i n) where
-  mode-is : modeAt (cardOf l) i ≡ modeSlot (getD (l .given .modes) i pastMode)
-  mode-is = mode-slot l i (r .within)
+module _ (l : Load) (n : ℕ) (r : Longest l n) where
+  needed : replySize n ≤ cardOf l .«reply_size»
+  needed =
+      let m = mode-slot l (r .at) (r .has .within) in
+      omega (arith, is-a-load l .stocked .good (r .at) (ap (λ (s : ModeSlot). s .held) m) .size, ap (λ (s : ModeSlot). s .len) m, r .has .size)
+
+  enough-for : (i : ℕ) → i < length (take (l .given .«mode_count») (l .given .modes)) →
+      replySize (getD (take (l .given .«mode_count») (l .given .modes)) i pastMode .len) ≤ replySize n
+  enough-for i h =
+      let w : i < l .given .«mode_count» = omega (arith, length-take (l .given .«mode_count») (l .given .modes)) in
+      let m = r .others i _ (record { within = w; size = refl }) in
+      omega (arith, ap (λ (s : Mode). s .len) (getD-take (l .given .«mode_count») (l .given .modes) i pastMode w))
 
   size-is : cardOf l .«reply_size» ≡ replySize n
-  size-is = sym (is-a-load l .stocked .good i (ap (λ (m : ModeSlot). m .held) mode-is) .size) ∙ ap replySize (ap (λ (m : ModeSlot). m .len) mode-is ∙ r .size)
+  size-is = omega (arith, needed, size-given l, size-below (take (l .given .«mode_count») (l .given .modes)) (replySize n) enough-for)
 
-size-edge : (n : ℕ) (l : Load) → Records l 0 n → Size n (replySize n)
-size-edge n l r = ((l, (0, r)), λ k p. size-is k (p .0) n (p .1))
+size-edge : (n : ℕ) (l : Load) → lengths l ≡ n ∷ [] → Size n (replySize n)
+size-edge n l e = ((l, longest-one l n e), λ k p. size-is k n p)
+
+-- T-01: the body of a mode's record of n bytes, on a card whose B is b
+module _ (l : Load) (i n b : ℕ) (r : Records l i n) (s : cardOf l .«reply_size» ≡ b) where
+  replies : (m : ℕ) (body : List ℕ) → bodyGiven l i ≡ body → length body ≡ m → Replies l i b m body
+  replies m body e h =
+      record {
+        size = s;
+        long = h;
+        answered =
+            λ xs x f a q. named-answer l xs x f a i (r .within) q
+            ∙ ap₂ (λ (k : ℕ) (t : List ℕ). encrypted (aes 4 (keysHash (left l xs) (dataOf (x .command)))) zeros k (padded (t ++ l .given .«div_data»))) s e;
+      }
+
+  with-payload : (k : ℕ) → 16 * (b - 2) - n ≡ k → Replies l i b (n + k) (recordGiven l i ++ replicate k 0)
+  unfolding bodyOf
+  with-payload k e =
+      let w : length (recordGiven l i) ≡ n = record-long l i (r .within) ∙ r .size in
+      let z : 16 * (cardOf l .«reply_size» - 2) - length (recordGiven l i) ≡ k = omega arith in
+      replies (n + k) (recordGiven l i ++ replicate k 0) (ap (λ (j : ℕ). recordGiven l i ++ replicate j 0) z)
+      (length-append (recordGiven l i) (replicate k 0) ∙ omega (arith, length-replicate {A = ℕ} k 0))
+
+  without : 16 * (b - 2) - n ≡ 0 → Replies l i b n (recordGiven l i)
+  unfolding bodyOf
+  without e =
+      let w : length (recordGiven l i) ≡ n = record-long l i (r .within) ∙ r .size in
+      let z : 16 * (cardOf l .«reply_size» - 2) - length (recordGiven l i) ≡ 0 = omega arith in
+      replies n (recordGiven l i) (ap (λ (j : ℕ). recordGiven l i ++ replicate j 0) z ∙ append-nil (recordGiven l i)) w
+
+-- the records of a load with two
+first-of : (l : Load) (m n : ℕ) → lengths l ≡ m ∷ n ∷ [] → Records l 0 m
+first-of l m n e = records-at l 0 m (omega (arith, ap length e)) (ap (λ (s : List ℕ). getD s 0 0) e)
+
+second-of : (l : Load) (m n : ℕ) → lengths l ≡ m ∷ n ∷ [] → Records l 1 n
+second-of l m n e = records-at l 1 n (omega (arith, ap length e)) (ap (λ (s : List ℕ). getD s 1 0) e)
+
+both-edge : Of (λ l. lengths l ≡ 4 ∷ 16 ∷ []) (λ l. Replies l 0 3 16 (recordGiven l 0 ++ replicate 12 0))
+both-edge = (load-4-16, λ l e. with-payload l 0 4 3 (first-of l 4 16 e) (size-is l 16 (longest-two l 4 16 e (omega arith))) 12 refl)
+
+long-edge : Of (λ l. lengths l ≡ 15 ∷ 64 ∷ []) (λ l. Replies l 0 6 64 (recordGiven l 0 ++ replicate 49 0) × Replies l 1 6 64 (recordGiven l 1))
+long-edge = (
+  load-15-64,
+  λ l e. let s = size-is l 64 (longest-two l 15 64 e (omega arith)) in
+      (with-payload l 0 15 6 (first-of l 15 64 e) s 49 refl, without l 1 64 6 (second-of l 15 64 e) s refl),
+)
+
+alone-edge : Of (λ l. lengths l ≡ 4 ∷ []) (λ l. Replies l 0 2 4 (recordGiven l 0))
+alone-edge = (load-4, λ l e. let k = longest-one l 4 e in without l 0 4 2 (records-at l 0 4 (omega (arith, ap length e)) (ap (λ (s : List ℕ). getD s 0 0) e)) (size-is l 4 k) refl)
 
 -- "payload p: Lc lc"
 seal-edge : (p : ℕ) → p ≤ 205 → Seals p (lcFor p)
@@ -349,7 +459,7 @@ final-refused l b d h o s fresh room lr t =
 
 final-edge : (lc : ℕ) → 0 < lc → (lc % 16 ≡ 0 → ⊥) → Final lc (lc / 16)
 final-edge lc h o = (
-  (load-16 .0, size-is (load-16 .0) 0 16 (load-16 .1 .0)),
+  (load-16 .0, size-is (load-16 .0) 16 (longest-one (load-16 .0) 16 (load-16 .1 .0))),
   λ l b d e s fresh room lr t. rw (ap (λ (n : ℕ). n / 16) e) at (final-refused l b d (omega arith) (λ z. o (ap (λ (n : ℕ). n % 16) (sym e) ∙ z)) s fresh room lr t),
 )
 
@@ -372,4 +482,7 @@ all-edges =
     bad-edge and
     final-edge 255 (omega arith) (λ z. omega arith) and
     final-edge 1 (omega arith) (λ z. omega arith) and
+    both-edge and
+    long-edge and
+    alone-edge and
     end

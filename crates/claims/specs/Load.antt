@@ -4,9 +4,11 @@ use mathlib.Core.List.{List}
 use Prim.Native.Nat.{ℕ, _<_}
 use lib.ListN.{length, getD}
 use Rattle.octets.specs.Bytes.{Bytes, Block}
+use Rattle.octets.specs.Lists.{part}
 use Rattle.plaid_types.specs.declared.KeySet.{KeySet}
 use Rattle.plaid_types.specs.declared.Card.{Card}
-use Rattle.load.specs.Load.{pastSet}
+use Rattle.load.specs.Load.{pastSet, pastMode}
+use Rattle.final_command.specs.Final.{bodyOf}
 use Rattle.plaid.specs.Interface.{loadOf}
 use Rattle.plaid.specs.declared.Given.{Given}
 
@@ -30,3 +32,11 @@ pub record Load : Type 0 where
 -- the card that it returned
 abbrev pub cardOf : Load → Card
 cardOf l = loadOf (l .sets) (l .given) (l .area) .card
+
+-- the record of its mode number i, counted from 0: "start and length in a record area"
+abbrev pub recordGiven : Load → ℕ → List ℕ
+recordGiven l i = part (l .area) (getD (l .given .modes) i pastMode .start) (getD (l .given .modes) i pastMode .len)
+
+-- T-01: with the "payload of zero bytes up to 16(B − 2) bytes in all" that follows a shorter one
+abbrev pub bodyGiven : Load → ℕ → List ℕ
+bodyGiven l i = bodyOf (recordGiven l i) (cardOf l .«reply_size»)

@@ -1,6 +1,6 @@
 -- What a successful load made: its card in terms of what was given, and what every list of calls keeps true of it. Assumes nothing.
-use mathlib.Core.Path.{_≡_, refl, sym, ap, _∙_}
-use mathlib.Core.Bool.{Bool, true, false, cond, _||_}
+use mathlib.Core.Path.{_≡_, sym, ap, _∙_}
+use mathlib.Core.Bool.{true, false, _||_}
 use mathlib.Core.List.{List}
 use Prim.Native.Nat.{ℕ, _+_, _-_, _<_, _≤_}
 use native.Mathlib.Nat.{le-refl}
@@ -8,24 +8,20 @@ use native.Mathlib.Omega.{arith}
 use lib.Dec.{eqb, ltb}
 use lib.ListN.{length, getD, take, drop, replicate, length-drop}
 use lib.Seq.{take-length, take-append-le, drop-append-le, getD-take, length-take-le}
-use borrow.Author.Tests.{eqb-true, ltb-false}
+use borrow.Author.Tests.{ltb-false}
 use Rattle.octets.specs.Bytes.{Bytes}
 use Rattle.octets.specs.ByteLists.{append-bytes, zeros-bytes}
-use Rattle.octets.specs.Lists.{part}
+use Rattle.octets.specs.Lists.{part, length-part}
 use Rattle.plaid_types.specs.declared.KeySet.{KeySet}
 use Rattle.plaid_types.specs.declared.Mode.{Mode}
 use Rattle.plaid_types.specs.declared.Session.{Session}
 use Rattle.plaid_types.specs.declared.Card.{Card}
-use Rattle.load.specs.Load.{pastSet, pastMode, refusal, badRecord, filled, setSlot, modeSlot, loadedCard, blankCard, loaded}
-use Rattle.load.specs.Laws.{neither, some-none, Accepted, accepted, setAt, modeAt, set-held, mode-held, set-given, mode-given, IsLoaded, is-loaded, load-made}
+use Rattle.load.specs.Load.{pastSet, pastMode, refusal, badRecord, largestSize, filled, setSlot, modeSlot, loadedCard}
+use Rattle.load.specs.Laws.{neither, some-none, Accepted, accepted, setAt, modeAt, set-held, mode-held, set-given, mode-given, IsLoaded, is-loaded, load-made, load-number}
 use Rattle.load.specs.declared.Loaded.{Loaded}
 use Rattle.card.specs.Demand3.{Sound}
 use Rattle.plaid.specs.Interface.{loadOf}
-use Rattle.claims.specs.Load.{Load, cardOf}
-
-refusal-zero : (r : ℕ) (c : Card) (t : Bool) → eqb r 0 ≡ t → cond {A = Loaded} t (record { number = 0; card = c }) (record { number = r; card = blankCard }) .number ≡ 0 → r ≡ 0
-refusal-zero r c true e z = eqb-true r 0 e
-refusal-zero r c false e z = z
+use Rattle.claims.specs.Load.{Load, cardOf, recordGiven}
 
 -- a part of the area that lies in what was given
 part-filled : (n : ℕ) (area : List ℕ) (s k : ℕ) → s + k ≤ length area → part (filled n 0 area) s k ≡ part area s k
@@ -47,11 +43,10 @@ module _ (l : Load) where
   made = loadedCard (l .sets) modes (l .area) (l .given .«div_data») (l .given .«shill_key») (l .given .«shill_handle»)
 
   zero-refusal : refusal (l .sets) (length (l .sets)) (l .given .modes) (l .given .«mode_count») (length (l .area)) (l .given .«shill_handle») ≡ 0
-  unfolding loadOf loaded
+  unfolding loadOf
   zero-refusal =
-      refusal-zero (refusal (l .sets) (length (l .sets)) (l .given .modes) (l .given .«mode_count») (length (l .area)) (l .given .«shill_handle»))
-      (loadedCard (take (length (l .sets)) (l .sets)) modes (l .area) (l .given .«div_data») (l .given .«shill_key») (l .given .«shill_handle»))
-      (eqb (refusal (l .sets) (length (l .sets)) (l .given .modes) (l .given .«mode_count») (length (l .area)) (l .given .«shill_handle»)) 0) refl (l .success)
+      sym (load-number (l .sets) (length (l .sets)) (l .given .modes) (l .given .«mode_count») (l .area) (l .given .«div_data») (l .given .«shill_key») (l .given .«shill_handle»))
+      ∙ l .success
 
   shown : Accepted (l .sets) (length (l .sets)) (l .given .modes) (l .given .«mode_count») (length (l .area)) (l .given .«shill_handle»)
   shown = accepted (l .sets) (length (l .sets)) (l .given .modes) (l .given .«mode_count») (length (l .area)) (l .given .«shill_handle») zero-refusal
@@ -113,10 +108,11 @@ module _ (l : Load) where
         let y = neither (ltb 64 (m .len)) (ltb (length (l .area)) (m .start + m .len)) (x .1) in
         ltb-false (length (l .area)) (m .start + m .len) (y .1)
 
+    pub record-long : length (recordGiven l i) ≡ getD (l .given .modes) i pastMode .len
+    record-long = length-part (l .area) (getD (l .given .modes) i pastMode .start) (getD (l .given .modes) i pastMode .len) inside
+
     -- it is a part of the area that was given
-    pub record-given :
-        part (cardOf l .area) (getD (l .given .modes) i pastMode .start) (getD (l .given .modes) i pastMode .len)
-        ≡ part (l .area) (getD (l .given .modes) i pastMode .start) (getD (l .given .modes) i pastMode .len)
+    pub record-given : part (cardOf l .area) (getD (l .given .modes) i pastMode .start) (getD (l .given .modes) i pastMode .len) ≡ recordGiven l i
     unfolding loadedCard
     record-given =
         let m : Mode = getD (l .given .modes) i pastMode in
@@ -139,6 +135,11 @@ module _ (l : Load) where
         rnd1 = ap (λ (s : Session). length (s .rnd1)) (k .no-session);
         size = k .stocked .size-most;
       }
+
+  -- T-01: "B becomes the largest that any record needs"
+  pub size-given : cardOf l .«reply_size» ≡ largestSize (take (l .given .«mode_count») (l .given .modes))
+  unfolding loadedCard
+  size-given = ap (λ (c : Card). c .«reply_size») card-is
 
   pub handle-given : cardOf l .«shill_handle» ≡ l .given .«shill_handle»
   unfolding loadedCard

@@ -1,12 +1,13 @@
--- Successful loads, closed, for the claims' examples: key sets by their numbers, and one mode. Assumes nothing.
-use mathlib.Core.Path.{_≡_, refl}
+-- Successful loads, closed, for the claims' examples: key sets and modes by their numbers. Assumes nothing.
+use mathlib.Core.Path.{_≡_, refl, _∙_}
 use mathlib.Core.List.{List, [], _∷_, _++_}
-use Prim.Native.Nat.{ℕ, zero, suc, _<_}
+use Prim.Native.Nat.{ℕ, zero, suc, _-_, _<_, _≤_}
 use native.Mathlib.Omega.{arith}
-use lib.ListN.{length, getD, replicate}
+use lib.ListN.{length, getD, replicate, length-append, length-replicate}
 use Rattle.octets.specs.Bytes.{Bytes, Block}
 use Rattle.octets.specs.ByteLists.{append-bytes}
 use Rattle.plaid_types.specs.declared.KeySet.{KeySet}
+use Rattle.plaid_types.specs.declared.Mode.{Mode}
 use Rattle.load.specs.Load.{pastSet, pastMode}
 use Rattle.plaid.specs.Interface.{loadOf}
 use Rattle.plaid.specs.declared.Given.{Given}
@@ -23,12 +24,15 @@ block-of x h = record { long = refl; byte = same-bytes 16 x h }
 unfoldable pub set : ℕ → KeySet
 set k = record { id = record { 0 = k }; handle = k; «fa_key» = replicate 16 k }
 
--- mode 7, with a record of n bytes behind m others
-unfoldable pub given : ℕ → ℕ → Given
-given m n =
+-- mode k, with a record of n bytes from m on
+unfoldable pub mode : ℕ → ℕ → ℕ → Mode
+mode k m n = record { id = record { 0 = k }; start = m; len = n }
+
+unfoldable pub given : List Mode → Given
+given ms =
     record {
-      modes = record { id = record { 0 = 7 }; start = m; len = n } ∷ replicate 15 pastMode;
-      «mode_count» = 1;
+      modes = ms ++ replicate (16 - length ms) pastMode;
+      «mode_count» = length ms;
       «div_data» = replicate 16 0xD1;
       «shill_key» = replicate 16 0x55;
       «shill_handle» = 99;
@@ -37,11 +41,12 @@ given m n =
 unfoldable pub area : ℕ → ℕ → List ℕ
 area m n = replicate m 0xAA ++ replicate n 0xBB
 
-pub typed : (sets : List KeySet) (m n : ℕ) → ((i : ℕ) → i < length sets → Block (getD sets i pastSet .«fa_key»)) → Typed sets (given m n) (area m n)
+pub typed : (sets : List KeySet) (ms : List Mode) (m n : ℕ) → length ms ≤ 16 → ((i : ℕ) → i < length sets → Block (getD sets i pastSet .«fa_key»)) →
+    Typed sets (given ms) (area m n)
 unfolding given area
-typed sets m n keys =
+typed sets ms m n h keys =
     record {
-      modes = refl;
+      modes = length-append ms (replicate (16 - length ms) pastMode) ∙ omega (arith, length-replicate (16 - length ms) pastMode);
       div = block-of 0xD1 (omega arith);
       key = block-of 0x55 (omega arith);
       keys = keys;
@@ -49,8 +54,9 @@ typed sets m n keys =
     }
 
 unfoldable pub load-of :
-    (sets : List KeySet) (m n : ℕ) → ((i : ℕ) → i < length sets → Block (getD sets i pastSet .«fa_key»)) → loadOf sets (given m n) (area m n) .number ≡ 0 → Load
-load-of sets m n keys e = record { sets = sets; given = given m n; area = area m n; typed = typed sets m n keys; success = e }
+    (sets : List KeySet) (ms : List Mode) (m n : ℕ) → length ms ≤ 16 → ((i : ℕ) → i < length sets → Block (getD sets i pastSet .«fa_key»)) →
+    loadOf sets (given ms) (area m n) .number ≡ 0 → Load
+load-of sets ms m n h keys e = record { sets = sets; given = given ms; area = area m n; typed = typed sets ms m n h keys; success = e }
 
 -- one set, and two
 pub one-key : (a : ℕ) → a < 256 → (i : ℕ) → i < 1 → Block (getD (set a ∷ []) i pastSet .«fa_key»)

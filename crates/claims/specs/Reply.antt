@@ -1,4 +1,4 @@
--- Document 01, "Final": what a final command is answered, on every card that a successful load and any calls left, whoever made the command.
+-- Document 01, "Final", with T-01: what a final command is answered, on every card that a successful load and any calls left, whoever made the command.
 -- Assumes nothing.
 use mathlib.Core.Path.{_≡_, refl, sym, ap, ap₂, _∙_}
 use mathlib.Core.Bool.{Bool, true, false, not, true≢false}
@@ -6,41 +6,42 @@ use mathlib.Core.List.{List, _++_}
 use Prim.Native.Nat.{ℕ, _*_, _<_}
 use lib.Dec.{eqb}
 use lib.ListN.{length, getD}
-use borrow.Author.Tests.{eqb-true}
+use borrow.Author.Tests.{eqb-true, not-true}
 use Rattle.octets.specs.Lists.{part}
+use Rattle.octets.specs.Same.{split-and}
 use Rattle.aes.specs.Aes.{aes}
 use Rattle.padding.specs.Method2.{padded}
 use Rattle.cbc.specs.Cbc.{encrypted, zeros}
 use Rattle.frame.specs.Frame.{frameOf, dataOf}
 use Rattle.frame.specs.Laws.{passed}
+use Rattle.plaid_types.specs.declared.OpModeId.{OpModeId}
 use Rattle.plaid_types.specs.declared.ModeSlot.{ModeSlot}
 use Rattle.plaid_types.specs.declared.Card.{Card}
 use Rattle.load.specs.Load.{pastMode, modeSlot}
 use Rattle.load.specs.Laws.{modeAt}
-use Rattle.final_command.specs.Final.{textOf, keysHash, opMode, modeOf, acceptsFinal, finalReply}
+use Rattle.final_command.specs.Final.{textOf, keysHash, opMode, firstMode, modeOf, acceptsFinal, bodyOf, finalReply}
 use Rattle.card.specs.Command.{verdictOn, replyTo, answerBytes}
 use Rattle.card.specs.Lists.{Call, cardAfter, bytesOf, isDeclined, isInitial, accepted}
-use Rattle.session_final.specs.Reply.{namedRecord, AcceptedReply, accepted-reply, refused-reply}
-use Rattle.claims.specs.Load.{Load, cardOf}
-use Rattle.claims.specs.Loaded.{mode-counted, mode-slot, record-given, key-given, div-given}
+use Rattle.session_final.specs.Reply.{bodyAt, namedBody, body-fills, AcceptedReply, accepted-reply, refused-reply}
+use Rattle.claims.specs.Load.{Load, cardOf, bodyGiven}
+use Rattle.claims.specs.Loaded.{mode-counted, mode-slot, mode-below, record-given, key-given, div-given, is-a-load}
 use Rattle.claims.specs.Kept.{Kept, kept}
+use Rattle.claims.specs.Found as found
 
 -- the card that the load l and the calls xs left
 abbrev pub left : Load → List Call → Card
 left l xs = cardAfter (cardOf l) xs
 
--- "Then the reply is record, DivData and padding under KeysHash by CBC": the record is that of the load's mode at `at`, which the text names
+-- "Then the reply is record, DivData and padding under KeysHash by CBC", by T-01 with the payload behind a shorter record: the body is that of the
+-- load's mode at `at`, which the text names
 pub record AcceptedFinal (l : Load) (xs : List Call) (x : Call) : Type 0 where
   pub at : ℕ
   pub given : at < l .given .«mode_count»
   pub named : getD (l .given .modes) at pastMode .id ≡ opMode (textOf (left l xs) (dataOf (x .command)))
-  pub fills :
-      length (padded (part (l .area) (getD (l .given .modes) at pastMode .start) (getD (l .given .modes) at pastMode .len) ++ l .given .«div_data»))
-      ≡ 16 * cardOf l .«reply_size»
+  pub fills : length (padded (bodyGiven l at ++ l .given .«div_data»)) ≡ 16 * cardOf l .«reply_size»
   pub answered :
       bytesOf (left l xs) x
-      ≡ encrypted (aes 4 (keysHash (left l xs) (dataOf (x .command)))) zeros (cardOf l .«reply_size»)
-      (padded (part (l .area) (getD (l .given .modes) at pastMode .start) (getD (l .given .modes) at pastMode .len) ++ l .given .«div_data»))
+      ≡ encrypted (aes 4 (keysHash (left l xs) (dataOf (x .command)))) zeros (cardOf l .«reply_size») (padded (bodyGiven l at ++ l .given .«div_data»))
 
 -- "Otherwise the first 16B fresh bytes go by CBC under the shill key, unpadded."
 abbrev pub RefusedFinal : Load → List Call → Call → Type 0
@@ -50,6 +51,21 @@ RefusedFinal l xs x = bytesOf (left l xs) x ≡ encrypted (aes 4 (l .given .«sh
 pub record FinalAnswers (l : Load) (xs : List Call) (x : Call) : Type 0 where
   pub if-accepted : accepted (left l xs) x ≡ true → AcceptedFinal l xs x
   pub if-refused : accepted (left l xs) x ≡ false → RefusedFinal l xs x
+
+-- the body of a mode that was given, as the card has it
+module _ (l : Load) (i : ℕ) (h : i < l .given .«mode_count») where
+  pub body-given : bodyAt (cardOf l) (modeAt (cardOf l) i) ++ cardOf l .«div_data» ≡ bodyGiven l i ++ l .given .«div_data»
+  body-given =
+      ap₂ (λ (r d : List ℕ). bodyOf r (cardOf l .«reply_size») ++ d)
+      (ap (λ (s : ModeSlot). part (cardOf l .area) (s .start) (s .len)) (mode-slot l i h) ∙ record-given l i h)
+      (div-given l)
+
+  -- THE TEXT FILLS B BLOCKS, whichever record it is
+  pub text-fills : length (padded (bodyGiven l i ++ l .given .«div_data»)) ≡ 16 * cardOf l .«reply_size»
+  text-fills =
+      let g = is-a-load l .stocked in
+      sym (ap (λ (s : List ℕ). length (padded s)) body-given)
+      ∙ body-fills (cardOf l) (modeAt (cardOf l) i) g (g .good i (ap (λ (s : ModeSlot). s .held) (mode-slot l i h)))
 
 module _ (l : Load) (xs : List Call) (x : Call) (goes : isDeclined x ≡ false) (final : isInitial x ≡ false) where
   kp : Kept l (left l xs)
@@ -96,14 +112,9 @@ module _ (l : Load) (xs : List Call) (x : Call) (goes : isDeclined x ≡ false) 
     mode-is : modeAt (left l xs) at ≡ modeSlot (getD (l .given .modes) at pastMode)
     mode-is = slot-is ∙ mode-slot l at counted
 
-    text-is :
-        namedRecord (left l xs) d ++ left l xs .«div_data»
-        ≡ part (l .area) (getD (l .given .modes) at pastMode .start) (getD (l .given .modes) at pastMode .len) ++ l .given .«div_data»
+    text-is : namedBody (left l xs) d ++ left l xs .«div_data» ≡ bodyGiven l at ++ l .given .«div_data»
     unfolding at
-    text-is =
-        ap₂ (λ (a b : List ℕ). a ++ b)
-        (ap₂ (λ (a : List ℕ) (s : ModeSlot). part a (s .start) (s .len)) (ap (λ (c : Card). c .area) (kp .same)) mode-is ∙ record-given l at counted)
-        (ap (λ (c : Card). c .«div_data») (kp .same) ∙ div-given l)
+    text-is = ap (λ (c : Card). bodyAt c (modeAt c at) ++ c .«div_data») (kp .same) ∙ body-given l at counted
 
     answered-so : AcceptedFinal l xs x
     unfolding at d
@@ -112,7 +123,7 @@ module _ (l : Load) (xs : List Call) (x : Call) (goes : isDeclined x ≡ false) 
           at = at;
           given = counted;
           named = sym (ap (λ (s : ModeSlot). s .id) mode-is) ∙ reply .is-mode;
-          fills = sym (ap (λ (s : List ℕ). length (padded s)) text-is) ∙ reply .fills ∙ ap (λ (n : ℕ). 16 * n) size-is;
+          fills = text-fills l at counted;
           answered =
               bytes-are
               ∙ reply .replied
@@ -127,3 +138,23 @@ module _ (l : Load) (xs : List Call) (x : Call) (goes : isDeclined x ≡ false) 
 
   pub final-answers : FinalAnswers l xs x
   final-answers = record { if-accepted = λ a. answered-so (sym accepts-are ∙ a); if-refused = λ a. refused-so (sym accepts-are ∙ a) }
+
+-- of two modes of a load that have one OpModeID, each is the other
+one-mode : (l : Load) (v : OpModeId) (i : ℕ) → i < l .given .«mode_count» → getD (l .given .modes) i pastMode .id ≡ v → firstMode 0 v (cardOf l .modes) ≡ i
+one-mode l v i h e =
+    let s = mode-slot l i h in
+    found.mode-is (cardOf l) (is-a-load l .stocked) v i (mode-below l i h) (ap (λ (m : ModeSlot). m .held) s) (ap (λ (m : ModeSlot). m .id) s ∙ e)
+
+-- so the body is that of every mode which has the OpModeID that the text names
+pub named-answer : (l : Load) (xs : List Call) (x : Call) → isInitial x ≡ false → accepted (left l xs) x ≡ true →
+    (i : ℕ) → i < l .given .«mode_count» → opMode (textOf (left l xs) (dataOf (x .command))) ≡ getD (l .given .modes) i pastMode .id →
+    bytesOf (left l xs) x
+    ≡ encrypted (aes 4 (keysHash (left l xs) (dataOf (x .command)))) zeros (cardOf l .«reply_size») (padded (bodyGiven l i ++ l .given .«div_data»))
+unfolding accepted
+named-answer l xs x final e i h q =
+    let goes : isDeclined x ≡ false = not-true (isDeclined x) (split-and _ _ e .0) in
+    let a = final-answers l xs x goes final .if-accepted e in
+    let v : OpModeId = opMode (textOf (left l xs) (dataOf (x .command))) in
+    let same : a .at ≡ i = sym (one-mode l v (a .at) (a .given) (a .named)) ∙ one-mode l v i h (sym q) in
+    a .answered
+    ∙ ap (λ (n : ℕ). encrypted (aes 4 (keysHash (left l xs) (dataOf (x .command)))) zeros (cardOf l .«reply_size») (padded (bodyGiven l n ++ l .given .«div_data»))) same

@@ -22,7 +22,7 @@ use Rattle.reader_seal.specs.Seal.{sealedOf, sealOutput}
 use Rattle.reader_seal.specs.declared.Sealed.{Sealed}
 use Rattle.reader_accept.specs.Accept.{acceptedOf, workAfter, recordPart}
 use Rattle.reader_accept.specs.declared.Accepted.{Accepted}
-use Rattle.claims.specs.Load.{Load, cardOf}
+use Rattle.claims.specs.Load.{Load, cardOf, recordGiven}
 
 -- a session: what the two ends and their platforms give
 pub record Exchange : Type 0 where
@@ -47,7 +47,8 @@ pub record Exchange : Type 0 where
   -- fresh bytes and output size of the final command's call
   pub fresh₂ : List ℕ
   pub room₂ : ℕ
-  -- the work buffer that Accept gets
+  -- the record length and the work buffer that Accept gets
+  pub recordLength : ℕ
   pub work : List ℕ
 
 module _ (e : Exchange) where
@@ -89,12 +90,12 @@ module _ (e : Exchange) where
 
   -- Accept, and the part of the work buffer that it returns
   abbrev pub accept : Accepted
-  accept = acceptedOf (seal .«keys_hash») (open₁ .«div_data») answer₂ (length (e .work))
+  accept = acceptedOf (seal .«keys_hash») (open₁ .«div_data») (e .recordLength) answer₂ (length (e .work))
 
   abbrev pub returned : List ℕ
-  returned = recordPart (workAfter (seal .«keys_hash») (open₁ .«div_data») answer₂ (e .work)) accept
+  returned = recordPart (workAfter (seal .«keys_hash») (open₁ .«div_data») (e .recordLength) answer₂ (e .work)) accept
 
-  -- the conditions of the promise, in document 01's words
+  -- the conditions of the promise, in document 01's words and T-01's
   pub record Conditions : Type 0 where
     -- "the first listed set that the card holds": the entry at `place` names the load's set at `set`, and no entry before it names a set of the load
     pub place : ℕ
@@ -113,6 +114,8 @@ module _ (e : Exchange) where
     pub at : ℕ
     pub mode-loaded : at < e .load .given .«mode_count»
     pub same-mode : getD (e .load .given .modes) at pastMode .id ≡ e .mode
+    -- T-01: "The reader gets the mode's record length, which a session needs to be the card's"
+    pub same-length : e .recordLength ≡ getD (e .load .given .modes) at pastMode .len
     -- "none of 8 to 14, 16, 17 and 19 arises": 11 to 13 in List, 8 to 10 in both calls, 14 in Open, 16 and 17 in Seal, 19 in Accept
     pub list-done : written .number ≡ 0
     pub first-done : outcome₁ .answer .number ≡ 0
@@ -127,11 +130,11 @@ module _ (e : Exchange) where
     pub rnd2-block : Block (e .rnd2)
     pub payload-bytes : Bytes (e .payload)
 
-  -- "Then Accept returns that mode's record": the part of the area that the load was given
+  -- "Then Accept returns that mode's record": the part of the area that the load was given, and none of the payload behind it
   pub record Promised (k : Conditions) : Type 0 where
     pub number : accept .number ≡ 0
     pub record-length : accept .length ≡ getD (e .load .given .modes) (k .at) pastMode .len
-    pub record-returned : returned ≡ part (e .load .area) (getD (e .load .given .modes) (k .at) pastMode .start) (getD (e .load .given .modes) (k .at) pastMode .len)
+    pub record-returned : returned ≡ recordGiven (e .load) (k .at)
 
 -- the claim
 abbrev pub SessionPromise : Type 0

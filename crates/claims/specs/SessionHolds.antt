@@ -149,10 +149,10 @@ module _ (e : Exchange) (k : Conditions e) where
   answer-is : (answer₂ e) ≡ answerBytes next cmd₂ (e .fresh₂) (e .room₂)
   answer-is = ap₂ (λ (x : Card) (y : List ℕ). answerBytes x y (e .fresh₂) (e .room₂)) next-is sent₂
 
-  accept-is : (accept e) ≡ acceptedOf (keysHashOf (open₁ e .rnd1) (e .rnd2)) (open₁ e .«div_data») (answerBytes next cmd₂ (e .fresh₂) (e .room₂)) (length (e .work))
-  accept-is = ap₂ (λ (h a : List ℕ). acceptedOf h (open₁ e .«div_data») a (length (e .work))) hash-is answer-is
+  accept-is : (accept e) ≡ acceptedOf (keysHashOf (open₁ e .rnd1) (e .rnd2)) (open₁ e .«div_data») (e .recordLength) (answerBytes next cmd₂ (e .fresh₂) (e .room₂)) (length (e .work))
+  accept-is = ap₂ (λ (h a : List ℕ). acceptedOf h (open₁ e .«div_data») (e .recordLength) a (length (e .work))) hash-is answer-is
 
-  conditions : promise.Conditions (card e) (e .ids) (e .count) (e .fresh₁) (e .room₁) (e .blocks) (e .faKey) (e .rnd2) (e .payload) (e .mode) (e .fresh₂) (e .room₂) (e .work)
+  conditions : promise.Conditions (card e) (e .ids) (e .count) (e .fresh₁) (e .room₁) (e .blocks) (e .faKey) (e .rnd2) (e .payload) (e .mode) (e .fresh₂) (e .room₂) (e .recordLength) (e .work)
   unfolding ids cmd₁ cmd₂ next
   conditions =
       record {
@@ -168,6 +168,7 @@ module _ (e : Exchange) (k : Conditions e) where
         decrypted = ap (blockAt (e .blocks)) first-is ∙ k .decrypted ∙ ap (λ (x : List ℕ). answerBytes (card e) x (e .fresh₁) (e .room₁)) sent₁;
         no-earlier = λ i h. k .none-opens i (omega (arith, first-is));
         mode-held = mode-held;
+        same-length = k .same-length ∙ sym (ap (λ (s : ModeSlot). s .len) sealed-slot);
         ids-long = k .ids-long;
         ids-small = λ i. subst (λ (s : List ℕ). getD s i 0 < 65536) numbers-are (id-small i);
         mode-small = k .mode-small;
@@ -182,7 +183,7 @@ module _ (e : Exchange) (k : Conditions e) where
   unfolding ids cmd₁ cmd₂ next
   numbered =
       accept-is
-      ∙ promise.session-number (card e) (e .ids) (e .count) (e .fresh₁) (e .room₁) (e .blocks) (e .faKey) (e .rnd2) (e .payload) (e .mode) (e .fresh₂) (e .room₂) (e .work) conditions
+      ∙ promise.session-number (card e) (e .ids) (e .count) (e .fresh₁) (e .room₁) (e .blocks) (e .faKey) (e .rnd2) (e .payload) (e .mode) (e .fresh₂) (e .room₂) (e .recordLength) (e .work) conditions
 
   promised : Promised e k
   unfolding ids cmd₁ cmd₂ next
@@ -192,8 +193,8 @@ module _ (e : Exchange) (k : Conditions e) where
         number = ap (λ (a : Accepted). a .number) numbered;
         record-length = ap (λ (a : Accepted). a .length) numbered ∙ ap (λ (s : ModeSlot). s .len) sealed-slot;
         record-returned =
-            ap₂ (λ (h a : List ℕ). recordPart (workAfter h (open₁ e .«div_data») a (e .work)) (acceptedOf h (open₁ e .«div_data») a (length (e .work)))) hash-is answer-is
-            ∙ promise.session-record (card e) (e .ids) (e .count) (e .fresh₁) (e .room₁) (e .blocks) (e .faKey) (e .rnd2) (e .payload) (e .mode) (e .fresh₂) (e .room₂) (e .work) conditions
+            ap₂ (λ (h a : List ℕ). recordPart (workAfter h (open₁ e .«div_data») (e .recordLength) a (e .work)) (acceptedOf h (open₁ e .«div_data») (e .recordLength) a (length (e .work)))) hash-is answer-is
+            ∙ promise.session-record (card e) (e .ids) (e .count) (e .fresh₁) (e .room₁) (e .blocks) (e .faKey) (e .rnd2) (e .payload) (e .mode) (e .fresh₂) (e .room₂) (e .recordLength) (e .work) conditions
             ∙ ap (λ (s : ModeSlot). part (card e .area) (s .start) (s .len)) sealed-slot
             ∙ ap (λ (a : List ℕ). part a (m .start) (m .len)) (ap (λ (x : Card). x .area) (kp .same))
             ∙ record-given (e .load) (k .at) (k .mode-loaded);

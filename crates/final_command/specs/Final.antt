@@ -1,4 +1,4 @@
--- Document 01, "Final".
+-- Document 01, "Final", with T-01 of document 02.
 use mathlib.Core.Bool.{Bool, true, cond, _&&_}
 use mathlib.Core.List.{List, [], _∷_, _++_}
 use Prim.Native.Nat.{ℕ, suc, _+_, _-_, _*_, _/_, _%_}
@@ -97,9 +97,13 @@ recordOf area m = part area (m .start) (least (m .len) 64)
 unfoldable pub sizeOf : Card → ℕ
 sizeOf c = least (c .«reply_size») 6
 
--- "the reply is record, DivData and padding .. Otherwise the first 16B fresh bytes .., unpadded"
+-- T-01: "A shorter record is followed by a payload of zero bytes up to 16(B − 2) bytes in all." A record that has as many is the body alone
+unfoldable pub bodyOf : List ℕ → ℕ → List ℕ
+bodyOf rec b = rec ++ replicate (16 * (b - 2) - length rec) 0
+
+-- "the reply is record, DivData and padding .. Otherwise the first 16B fresh bytes .., unpadded". By T-01 the record is followed by its payload
 unfoldable pub replyText : Bool → List ℕ → ModeSlot → List ℕ → List ℕ → ℕ → List ℕ
-replyText accepted area m div fresh b = cond accepted (padded (recordOf area m ++ div)) (part fresh 0 (16 * b))
+replyText accepted area m div fresh b = cond accepted (padded (bodyOf (recordOf area m) b ++ div)) (part fresh 0 (16 * b))
 
 -- what is enciphered, in a buffer of 96 bytes that starts as zero. On a card that a load returned the text fills B blocks exactly
 unfoldable pub replyBuffer : Card → List ℕ → List ℕ → List ℕ

@@ -1,15 +1,19 @@
--- The counts and the length of a final command's reply. Assumes nothing.
+-- The counts and the length of a final command's reply, and the body of an accepted one. Assumes nothing.
 use mathlib.Core.Path.{_≡_, refl, ap, _∙_}
 use mathlib.Core.Bool.{Bool, true, false, cond}
 use mathlib.Core.List.{List, [], _∷_}
-use Prim.Native.Nat.{ℕ, zero, suc, _+_, _*_, _≤_}
+use Prim.Native.Nat.{ℕ, zero, suc, _+_, _-_, _*_, _≤_}
 use native.Mathlib.Omega.{arith}
 use lib.Dec.{eqb, ltb}
-use lib.ListN.{length, replicate, drop, length-append, length-drop}
+use lib.ListN.{length, replicate, take, drop, length-append, length-drop, length-replicate}
+use lib.Seq.{take-at}
 use borrow.Author.Tests.{ltb-false}
+use Rattle.octets.specs.Bytes.{Bytes}
+use Rattle.octets.specs.ByteLists.{append-bytes, zeros-bytes}
 use Rattle.octets.specs.Lists.{part, over, table, length-part}
 use Rattle.aes.specs.Aes.{aes, invAes}
 use Rattle.aes.specs.RoundTrip.{length-aes}
+use Rattle.padding.specs.Method2.{blocksFor}
 use Rattle.sha256.specs.Parsing.{blocks}
 use Rattle.work.specs.Steps.{comparison, decipherment, encipherment, expansion, hashBlock, counted}
 use Rattle.work.specs.Laws.{counted-append, times-none, times-more}
@@ -21,7 +25,7 @@ use Rattle.steps.specs.Laws.{blocks-one}
 use Rattle.plaid_types.specs.declared.OpModeId.{OpModeId}
 use Rattle.plaid_types.specs.declared.ModeSlot.{ModeSlot}
 use Rattle.plaid_types.specs.declared.Card.{Card}
-use Rattle.final_command.specs.Final.{rnd1Of, diversified, blocksIn, textOf, hashedOf, modeSteps, replyKey, sizeOf, replyBuffer, finalBytes, finalSteps, finalReply}
+use Rattle.final_command.specs.Final.{rnd1Of, diversified, blocksIn, textOf, hashedOf, modeSteps, replyKey, sizeOf, bodyOf, replyBuffer, finalBytes, finalSteps, finalReply}
 
 -- "Answer length: .. 16B"
 pub final-length : (c : Card) (d fresh : List ℕ) → length (finalReply c d fresh .bytes) ≡ 16 * sizeOf c
@@ -35,6 +39,23 @@ least-is a b false e h = omega (arith, ltb-false a b e)
 pub size-loaded : (c : Card) → c .«reply_size» ≤ 6 → sizeOf c ≡ c .«reply_size»
 unfolding sizeOf
 size-loaded c h = least-is (c .«reply_size») 6 (ltb (c .«reply_size») 6) refl h
+
+-- T-01: the record and its payload. The record stands in front
+pub length-body : (rec : List ℕ) (b : ℕ) → length (bodyOf rec b) ≡ length rec + (16 * (b - 2) - length rec)
+unfolding bodyOf
+length-body rec b = length-append rec (replicate (16 * (b - 2) - length rec) 0) ∙ ap (λ (n : ℕ). length rec + n) (length-replicate (16 * (b - 2) - length rec) 0)
+
+pub take-body : (rec : List ℕ) (b n : ℕ) → length rec ≡ n → take n (bodyOf rec b) ≡ rec
+unfolding bodyOf
+take-body rec b n e = take-at rec (replicate (16 * (b - 2) - length rec) 0) n e
+
+pub body-bytes : (rec : List ℕ) (b : ℕ) → Bytes rec → Bytes (bodyOf rec b)
+unfolding bodyOf
+body-bytes rec b h = append-bytes rec (replicate (16 * (b - 2) - length rec) 0) h (zeros-bytes (16 * (b - 2) - length rec))
+
+-- with DivData behind it, it takes B blocks, where the record takes no more
+pub body-blocks : (rec : List ℕ) (b : ℕ) → blocksFor (length rec + 16) ≤ b → blocksFor (length (bodyOf rec b) + 16) ≡ b
+body-blocks rec b h = omega (arith, length-body rec b)
 
 -- one for a step of kind j among those of kind k
 abbrev of-kind : ℕ → ℕ → ℕ

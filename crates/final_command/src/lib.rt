@@ -8,7 +8,7 @@ use plaid_types::OpModeId;
 ghost use mathlib.Core.Path.{_≡_};
 ghost use mathlib.Core.Bool.{cond, true, _&&_};
 ghost use mathlib.Core.List.{_++_};
-ghost use Prim.Native.Nat.{_-_, _*_, _/_, _<_, _≤_};
+ghost use Prim.Native.Nat.{_+_, _-_, _*_, _/_, _<_, _≤_};
 ghost use lib.Dec.{leb};
 ghost use lib.ListN.{length, getD, replicate};
 ghost use Rattle.octets.specs.Bytes.{same};
@@ -274,6 +274,29 @@ fn source<'a>(accepted: bool, area: &'a [u8], mode: ModeSlot, fresh: &'a [u8], n
     &fresh[0..n]
 }
 
+// 96 zero bytes, and s over the first of them.
+fn buffer(s: &[u8]) -> [u8; Answer::FINAL_MOST]
+    requires { ⌜ length (now s) ≤ 96 ⌝ }
+    ensures { λ r. ⌜ r ≡ over (replicate 96 0) 0 (now (s .entry)) ⌝ }
+{
+    let mut b = [0u8; Answer::FINAL_MOST];
+    octets::copy_at(&mut b, 0, s);
+    b
+}
+
+// How long a record of n bytes is with its payload.
+fn body_length(n: usize, size: usize) -> usize
+    requires { ⌜ (n ≤ 64) × (size ≤ 6) ⌝ }
+    ensures { λ r. ⌜ r ≡ n + (16 * (size - 2) - n) ⌝ }
+{
+    if 32 + n < 16 * size {
+        16 * size - 32
+    } else {
+        n
+    }
+}
+
+// The payload of zero bytes is what the buffer has behind the record.
 fn reply_text(
     accepted: bool,
     area: [u8; Card::AREA],
@@ -285,12 +308,10 @@ fn reply_text(
     requires { ⌜ (size ≤ 6) × (length (now fresh) ≡ 253) ⌝ }
     ensures { λ r. ⌜ r ≡ bufferOf (replyText accepted area mode div (now (fresh .entry)) size) ⌝ }
 {
-    let mut b = [0u8; Answer::FINAL_MOST];
-    let n = 16 * size;
-    let s = source(accepted, &area, mode, fresh, n);
-    octets::copy_at(&mut b, 0, s);
+    let s = source(accepted, &area, mode, fresh, 16 * size);
+    let mut b = buffer(s);
     if accepted {
-        let t = s.len();
+        let t = body_length(s.len(), size);
         octets::copy_at(&mut b, t, &div);
         padding::pad(&mut b, t + 16);
         return b;

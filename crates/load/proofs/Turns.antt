@@ -1,5 +1,5 @@
--- The turns and the ends of the loops: one looks for an element, one for a number that stands again, one copies into slots. Assumes nothing.
-use Prim.Native.Nat.{ℕ, zero, suc, _+_, _-_, _<_, _≤_}
+-- The turns and the ends of the loops: one looks for an element, one for a number that stands again, one for the largest reply size, one copies into slots. Assumes nothing.
+use Prim.Native.Nat.{ℕ, _+_, _-_, _<_, _≤_}
 use mathlib.Core.Path.{_≡_, sym, ap, ap₂, _∙_}
 use mathlib.Core.Bool.{Bool, _||_, or-false, or-assoc}
 use mathlib.Core.List.{List, [], _∷_, _++_, map, append-nil}
@@ -9,7 +9,9 @@ use native.Mathlib.Omega.{arith}
 use lib.Dec.{eqb}
 use lib.ListN.{length, getD, take, drop, set, replicate, length-take, drop-of-length-le}
 use lib.Seq.{length-take-le, drop-cons, getD-take, take-all, paste, paste-suc}
-use Rattle.load.specs.Load.{some, repeated, filled}
+use Rattle.octets.specs.Writes.{drop-replicate}
+use Rattle.plaid_types.specs.declared.Mode.{Mode}
+use Rattle.load.specs.Load.{pastMode, some, repeated, replySize, larger, largestSize, filled}
 use Rattle.load.specs.Laws.{map-take}
 
 -- what the i-th of the first n elements leaves behind it
@@ -46,6 +48,17 @@ again-turn l n i r more all h k m e =
 pub again-done : (l : List ℕ) (n i : ℕ) (r all : Bool) → n ≤ i → (r || repeated (drop i (take n l))) ≡ all → r ≡ all
 again-done l n i r all h e = sym (ap (λ (s : List ℕ). r || repeated s) (rest l n i h) ∙ or-false r) ∙ e
 
+-- the look for the largest reply size, from behind: none is seen yet, and then the mode before those that are
+pub size-start : (l : List Mode) (n : ℕ) → 0 ≡ largestSize (drop n (take n l))
+size-start l n = sym (ap largestSize (rest l n n (omega arith)))
+
+pub size-turn : (l : List Mode) (n i j size mine more : ℕ) → j ≡ i + 1 → i < n → n ≤ length l → mine ≡ replySize (getD l i pastMode .len) → more ≡ larger mine size →
+    size ≡ largestSize (drop j (take n l)) → more ≡ largestSize (drop i (take n l))
+size-turn l n i j size mine more q h k e m s =
+    m
+    ∙ ap₂ larger e (s ∙ ap (λ (x : ℕ). largestSize (drop x (take n l))) q)
+    ∙ sym (ap largestSize (next l n i pastMode h k))
+
 -- the copy of s into t₀, of which i elements are done
 pub copy-turn : {A : Type 0} (t₀ t s : List A) (i : ℕ) (v z : A) → t ≡ paste t₀ 0 s i → i < length t₀ → i < length s → v ≡ getD s i z →
     set t i v ≡ paste t₀ 0 s (i + 1)
@@ -61,11 +74,6 @@ copy-all {A = A} t₀ s i h k =
     ap₂ (λ (x y : List A). x ++ y) (take-all i s k) (drop-of-length-le t₀ {i = 0 + i} (omega arith)) ∙ append-nil s
 
 -- and where empty slots are left
-drop-replicate : {A : Type 0} (d : A) (n k : ℕ) → drop n (replicate k d) ≡ replicate (k - n) d
-drop-replicate d zero k = let e : k ≡ k - 0 = omega arith in ap (λ (m : ℕ). replicate m d) e
-drop-replicate d (suc n) zero = let e : 0 ≡ 0 - suc n = omega arith in ap (λ (m : ℕ). replicate m d) e
-drop-replicate d (suc n) (suc k) = let e : k - n ≡ suc k - suc n = omega arith in drop-replicate d n k ∙ ap (λ (m : ℕ). replicate m d) e
-
 pub copy-filled : {A : Type 0} (d : A) (s : List A) (k i : ℕ) → i ≤ length s → paste (filled k d []) 0 s i ≡ filled k d (take i s)
 unfolding filled
 copy-filled {A = A} d s k i h =

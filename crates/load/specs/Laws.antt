@@ -5,7 +5,7 @@ use mathlib.Core.List.{List, [], _∷_, _++_, map}
 use Prim.Native.Nat.{ℕ, zero, suc, _+_, _-_, _<_, _≤_}
 use native.Mathlib.Nat.{not-suc-le-zero, le-of-suc-le-suc}
 use native.Mathlib.Omega.{arith}
-use borrow.Author.Tests.{eqb-true, eqb-false, ltb-true, ltb-false, not-false, eq-eqb, ne-eqb}
+use borrow.Author.Tests.{eqb-true, eqb-false, ltb-true, ltb-false, eq-eqb, ne-eqb}
 use lib.Dec.{eqb, ltb}
 use lib.ListN.{length, getD, take, replicate, length-append, length-replicate, length-map, List·getD-append, List·getD-map}
 use lib.Seq.{length-take-le, getD-take, getD-append-add}
@@ -16,14 +16,35 @@ use Rattle.plaid_types.specs.declared.Mode.{Mode}
 use Rattle.plaid_types.specs.declared.ModeSlot.{ModeSlot}
 use Rattle.plaid_types.specs.declared.Session.{Session}
 use Rattle.plaid_types.specs.declared.Card.{Card}
-use Rattle.load.specs.Load.{pastSet, pastMode, some, miscounted, repeated, setIds, modeIds, withHandle, badRecord, replySize, firstSize, unequal}
+use Rattle.load.specs.declared.Loaded.{Loaded}
+use Rattle.load.specs.Load.{pastSet, pastMode, some, miscounted, repeated, setIds, modeIds, withHandle, badRecord, replySize, largestSize}
 use Rattle.load.specs.Load.{modesRefusal, refusal, filled, setSlot, modeSlot, loadedCard, blankCard, loaded}
 
--- the reply size of the first mode
-pub first-size : (l : List Mode) (n : ℕ) → 0 < n → 0 < length l → firstSize (take n l) ≡ replySize (getD l 0 pastMode .len)
-first-size l zero h k = absurd (not-suc-le-zero h)
-first-size [] (suc n) h k = absurd (not-suc-le-zero k)
-first-size (m ∷ ms) (suc n) h k = refl
+-- the larger of two is no less than either, and no more than what both are at most
+larger-left : (a b : ℕ) (t : Bool) → ltb a b ≡ t → a ≤ cond t b a
+larger-left a b true e = omega (arith, ltb-true a b e)
+larger-left a b false e = omega arith
+
+larger-right : (a b : ℕ) (t : Bool) → ltb a b ≡ t → b ≤ cond t b a
+larger-right a b true e = omega arith
+larger-right a b false e = ltb-false a b e
+
+larger-below : (a b k : ℕ) (t : Bool) → a ≤ k → b ≤ k → cond t b a ≤ k
+larger-below a b k true h l = l
+larger-below a b k false h l = h
+
+-- "the largest that any record needs": no record needs more, and it is the least such number
+pub size-each : (ms : List Mode) (i : ℕ) → i < length ms → replySize (getD ms i pastMode .len) ≤ largestSize ms
+size-each [] i h = absurd (not-suc-le-zero h)
+size-each (m ∷ ms) zero h = larger-left (replySize (m .len)) (largestSize ms) (ltb (replySize (m .len)) (largestSize ms)) refl
+size-each (m ∷ ms) (suc i) h =
+    omega (arith, size-each ms i (le-of-suc-le-suc h), larger-right (replySize (m .len)) (largestSize ms) (ltb (replySize (m .len)) (largestSize ms)) refl)
+
+pub size-below : (ms : List Mode) (b : ℕ) → ((i : ℕ) → i < length ms → replySize (getD ms i pastMode .len) ≤ b) → largestSize ms ≤ b
+size-below [] b f = omega arith
+size-below (m ∷ ms) b f =
+    larger-below (replySize (m .len)) (largestSize ms) b (ltb (replySize (m .len)) (largestSize ms)) (f 0 (omega arith))
+    (size-below ms b (λ i h. f (suc i) (omega arith)))
 
 -- the first n of a list, mapped
 pub map-take : {A B : Type 0} (f : A → B) (n : ℕ) (l : List A) → take n (map f l) ≡ map f (take n l)
@@ -62,7 +83,6 @@ pub record Accepted (sets : List KeySet) (n : ℕ) (modes : List Mode) (m area h
   pub mode-ids-once : repeated (modeIds (take m modes)) ≡ false
   pub area-most : area ≤ 1024
   pub records-good : some (badRecord area) (take m modes) ≡ false
-  pub sizes-equal : unequal (take m modes) ≡ false
 
 counted : (most n : ℕ) → miscounted most n ≡ false → (0 < n) × (n ≤ most)
 counted most n e =
@@ -71,24 +91,22 @@ counted most n e =
     let l = ltb-false most n (a .1) in
     (omega arith, l)
 
-accepted-by : (sets : List KeySet) (n : ℕ) (modes : List Mode) (m area handle : ℕ) (s t u v w x y : Bool) →
+accepted-by : (sets : List KeySet) (n : ℕ) (modes : List Mode) (m area handle : ℕ) (s t u v w x : Bool) →
     miscounted 8 n ≡ s →
     repeated (setIds (take n sets)) ≡ t →
     withHandle handle (take n sets) ≡ u →
     miscounted 16 m ≡ v →
     repeated (modeIds (take m modes)) ≡ w →
     (ltb 1024 area || some (badRecord area) (take m modes)) ≡ x →
-    unequal (take m modes) ≡ y →
-    _≡_ {A = ℕ} (cond s 1 (cond t 2 (cond u 3 (cond v 4 (cond w 5 (cond x 6 (cond y 7 0))))))) 0 →
+    _≡_ {A = ℕ} (cond s 1 (cond t 2 (cond u 3 (cond v 4 (cond w 5 (cond x 6 0)))))) 0 →
     Accepted sets n modes m area handle
-accepted-by sets n modes m area handle true t u v w x y es et eu ev ew ex ey q = absurd (omega arith)
-accepted-by sets n modes m area handle false true u v w x y es et eu ev ew ex ey q = absurd (omega arith)
-accepted-by sets n modes m area handle false false true v w x y es et eu ev ew ex ey q = absurd (omega arith)
-accepted-by sets n modes m area handle false false false true w x y es et eu ev ew ex ey q = absurd (omega arith)
-accepted-by sets n modes m area handle false false false false true x y es et eu ev ew ex ey q = absurd (omega arith)
-accepted-by sets n modes m area handle false false false false false true y es et eu ev ew ex ey q = absurd (omega arith)
-accepted-by sets n modes m area handle false false false false false false true es et eu ev ew ex ey q = absurd (omega arith)
-accepted-by sets n modes m area handle false false false false false false false es et eu ev ew ex ey q =
+accepted-by sets n modes m area handle true t u v w x es et eu ev ew ex q = absurd (omega arith)
+accepted-by sets n modes m area handle false true u v w x es et eu ev ew ex q = absurd (omega arith)
+accepted-by sets n modes m area handle false false true v w x es et eu ev ew ex q = absurd (omega arith)
+accepted-by sets n modes m area handle false false false true w x es et eu ev ew ex q = absurd (omega arith)
+accepted-by sets n modes m area handle false false false false true x es et eu ev ew ex q = absurd (omega arith)
+accepted-by sets n modes m area handle false false false false false true es et eu ev ew ex q = absurd (omega arith)
+accepted-by sets n modes m area handle false false false false false false es et eu ev ew ex q =
     let a = counted 8 n es in
     let b = counted 16 m ev in
     let c = neither (ltb 1024 area) (some (badRecord area) (take m modes)) ex in
@@ -102,15 +120,14 @@ accepted-by sets n modes m area handle false false false false false false false
       mode-ids-once = ew;
       area-most = ltb-false 1024 area (c .0);
       records-good = c .1;
-      sizes-equal = ey;
     }
 
 pub accepted : (sets : List KeySet) (n : ℕ) (modes : List Mode) (m area handle : ℕ) → refusal sets n modes m area handle ≡ 0 → Accepted sets n modes m area handle
 unfolding refusal modesRefusal
 accepted sets n modes m area handle q =
     accepted-by sets n modes m area handle (miscounted 8 n) (repeated (setIds (take n sets))) (withHandle handle (take n sets)) (miscounted 16 m)
-    (repeated (modeIds (take m modes))) (ltb 1024 area || some (badRecord area) (take m modes)) (unequal (take m modes))
-    refl refl refl refl refl refl refl q
+    (repeated (modeIds (take m modes))) (ltb 1024 area || some (badRecord area) (take m modes))
+    refl refl refl refl refl refl q
 
 -- the two answers of a load
 module _ (sets : List KeySet) (n : ℕ) (modes : List Mode) (m : ℕ) (area div key : List ℕ) (handle : ℕ) where
@@ -123,6 +140,33 @@ module _ (sets : List KeySet) (n : ℕ) (modes : List Mode) (m : ℕ) (area div 
       loaded sets n modes m area div key handle ≡ record { number = refusal sets n modes m (length area) handle; card = blankCard }
   unfolding loaded
   load-refused e = simp (ne-eqb (refusal sets n modes m (length area) handle) 0 e)
+
+-- T-01: "Load refusal 7 no longer occurs."
+not-seven : (s t u v w x : Bool) → _≡_ {A = ℕ} (cond s 1 (cond t 2 (cond u 3 (cond v 4 (cond w 5 (cond x 6 0)))))) 7 → ⊥
+not-seven true t u v w x q = omega arith
+not-seven false true u v w x q = omega arith
+not-seven false false true v w x q = omega arith
+not-seven false false false true w x q = omega arith
+not-seven false false false false true x q = omega arith
+not-seven false false false false false true q = omega arith
+not-seven false false false false false false q = omega arith
+
+number-of : (r : ℕ) (c : Card) (t : Bool) → eqb r 0 ≡ t → cond {A = Loaded} t (record { number = 0; card = c }) (record { number = r; card = blankCard }) .number ≡ r
+number-of r c true e = sym (eqb-true r 0 e)
+number-of r c false e = refl
+
+module _ (sets : List KeySet) (n : ℕ) (modes : List Mode) (m : ℕ) (area div key : List ℕ) (handle : ℕ) where
+  pub load-number : loaded sets n modes m area div key handle .number ≡ refusal sets n modes m (length area) handle
+  unfolding loaded
+  load-number =
+      number-of (refusal sets n modes m (length area) handle) (loadedCard (take n sets) (take m modes) area div key handle)
+      (eqb (refusal sets n modes m (length area) handle) 0) refl
+
+  pub no-seven : loaded sets n modes m area div key handle .number ≡ 7 → ⊥
+  unfolding refusal modesRefusal
+  no-seven q =
+      not-seven (miscounted 8 n) (repeated (setIds (take n sets))) (withHandle handle (take n sets)) (miscounted 16 m) (repeated (modeIds (take m modes)))
+      (ltb 1024 (length area) || some (badRecord (length area)) (take m modes)) (sym load-number ∙ q)
 
 -- a load looks at the sets counted, and at none where it refuses their count
 module _ (a b : List KeySet) (n : ℕ) (modes : List Mode) (m : ℕ) (area div key : List ℕ) (handle : ℕ) where
@@ -190,7 +234,7 @@ pub record GoodRecord (s : ModeSlot) (B : ℕ) : Type 0 where
   pub some-bytes : 1 ≤ s .len
   pub most-bytes : s .len ≤ 64
   pub inside : s .start + s .len ≤ 1024
-  pub size : replySize (s .len) ≡ B
+  pub size : replySize (s .len) ≤ B
 
 -- what a load gives a card, and each command leaves it
 pub record Stocked (c : Card) : Type 0 where
@@ -218,14 +262,14 @@ mode-held-by s e h = let z : _≡_ {A = ℕ} 0 1 = cc in omega arith
 set-held-by : (s : KeySetSlot) → s ≡ noSet → s .held ≡ true → ⊥
 set-held-by s e h = let z : _≡_ {A = ℕ} 0 1 = cc in omega arith
 
-good-by : (m : Mode) (area B : ℕ) → badRecord area m ≡ false → area ≤ 1024 → not (eqb (replySize (m .len)) B) ≡ false → GoodRecord (modeSlot m) B
+good-by : (m : Mode) (area B : ℕ) → badRecord area m ≡ false → area ≤ 1024 → replySize (m .len) ≤ B → GoodRecord (modeSlot m) B
 good-by m area B e h q =
     let x = neither (eqb (m .len) 0) (ltb 64 (m .len) || ltb area (m .start + m .len)) e in
     let y = neither (ltb 64 (m .len)) (ltb area (m .start + m .len)) (x .1) in
     let z = eqb-false (m .len) 0 (x .0) in
     let u = ltb-false 64 (m .len) (y .0) in
     let v = ltb-false area (m .start + m .len) (y .1) in
-    record { some-bytes = omega arith; most-bytes = u; inside = omega arith; size = eqb-true (replySize (m .len)) B (not-false (eqb (replySize (m .len)) B) q) }
+    record { some-bytes = omega arith; most-bytes = u; inside = omega arith; size = q }
 
 module _ (sets : List KeySet) (modes : List Mode) (area div key : List ℕ) (handle : ℕ) where
   set-given-by : (i : ℕ) (t : Bool) → ltb i (length sets) ≡ t → setAt (loadedCard sets modes area div key handle) i .held ≡ true → i < length sets
@@ -272,12 +316,15 @@ module _ (sets : List KeySet) (modes : List Mode) (area div key : List ℕ) (han
       eqb-false (getD sets i pastSet .handle) handle (some-none (λ (x : KeySet). eqb (x .handle) handle) sets pastSet i e h)
       (sym (ap (λ (s : KeySetSlot). s .handle) (set-held sets modes area div key handle i h)) ∙ z)
 
-  mode-good : (i : ℕ) → some (badRecord (length area)) modes ≡ false → length area ≤ 1024 → unequal modes ≡ false → i < length modes →
-      GoodRecord (modeAt (loadedCard sets modes area div key handle) i) (firstSize modes)
-  mode-good i r a u h =
-      subst (λ (s : ModeSlot). GoodRecord s (firstSize modes)) (sym (mode-held sets modes area div key handle i h))
-      (good-by (getD modes i pastMode) (length area) (firstSize modes) (some-none (badRecord (length area)) modes pastMode i r h) a
-      (some-none (λ (x : Mode). not (eqb (replySize (x .len)) (firstSize modes))) modes pastMode i u h))
+  record-good : (i : ℕ) → some (badRecord (length area)) modes ≡ false → length area ≤ 1024 → i < length modes →
+      GoodRecord (modeSlot (getD modes i pastMode)) (largestSize modes)
+  record-good i r a h =
+      good-by (getD modes i pastMode) (length area) (largestSize modes) (some-none (badRecord (length area)) modes pastMode i r h) a (size-each modes i h)
+
+  mode-good : (i : ℕ) → some (badRecord (length area)) modes ≡ false → length area ≤ 1024 → i < length modes →
+      GoodRecord (modeAt (loadedCard sets modes area div key handle) i) (largestSize modes)
+  mode-good i r a h =
+      subst (λ (s : ModeSlot). GoodRecord s (largestSize modes)) (sym (mode-held sets modes area div key handle i h)) (record-good i r a h)
 
 -- a load that is not refused makes a loaded card. The lengths are those that the types of its inputs say, and there are as many sets as are counted
 pub is-loaded : (sets : List KeySet) (n : ℕ) (modes : List Mode) (m : ℕ) (area div key : List ℕ) (handle : ℕ) →
@@ -295,7 +342,7 @@ is-loaded sets n modes m area div key handle z ls lm ld lk lf =
     let l : List Mode = take m modes in
     let hs : length s ≡ n = length-take-le n sets ls in
     let hl : length l ≡ m = length-take-le m modes (omega (arith, k .modes-most)) in
-    let g = mode-good s l area div key handle 0 (k .records-good) (k .area-most) (k .sizes-equal) (omega (arith, k .modes-some)) in
+    let g : (i : ℕ) → i < length l → GoodRecord (modeSlot (getD l i pastMode)) (largestSize l) = λ i h. record-good s l area div key handle i (k .records-good) (k .area-most) h in
     record {
       stocked =
           record {
@@ -307,9 +354,9 @@ is-loaded sets n modes m area div key handle z ls lm ld lk lf =
             fa-long =
                 λ i. fa-by s l area div key handle i (ltb i (length s)) refl
                 (λ j h. ap (λ (x : KeySet). length (x .«fa_key»)) (getD-take n sets j pastSet (omega arith)) ∙ lf j (omega arith));
-            size-least = omega (arith, g .some-bytes, g .size);
-            size-most = omega (arith, g .most-bytes, g .size);
-            good = λ i h. mode-good s l area div key handle i (k .records-good) (k .area-most) (k .sizes-equal) (mode-given s l area div key handle i h);
+            size-least = omega (arith, g 0 (omega (arith, k .modes-some)) .size);
+            size-most = size-below l 6 (λ i h. omega (arith, g i h .most-bytes));
+            good = λ i h. mode-good s l area div key handle i (k .records-good) (k .area-most) (mode-given s l area div key handle i h);
             set-once = λ i j h p q. set-once-by s l area div key handle i j (k .ids-once) h (set-given s l area div key handle i p) (set-given s l area div key handle j q);
             mode-once = λ i j h p q. mode-once-by s l area div key handle i j (k .mode-ids-once) h (mode-given s l area div key handle i p) (mode-given s l area div key handle j q);
             handle-other = λ i h. handle-by s l area div key handle i (k .handles-other) (set-given s l area div key handle i h);

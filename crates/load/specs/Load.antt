@@ -1,5 +1,5 @@
--- Document 01, "The card", of a load, and of "When an operation declines", the faults of a load.
-use mathlib.Core.Bool.{Bool, true, false, cond, _||_, not}
+-- Document 01, "The card", of a load, and of "When an operation declines", the faults of a load; with T-01 of document 02.
+use mathlib.Core.Bool.{Bool, true, false, cond, _||_}
 use mathlib.Core.List.{List, [], _∷_, _++_, map}
 use Prim.Native.Nat.{ℕ, _+_, _-_}
 use lib.Dec.{eqb, ltb}
@@ -52,24 +52,22 @@ badRecord area m = eqb (m .len) 0 || (ltb 64 (m .len) || ltb area (m .start + m 
 abbrev pub replySize : ℕ → ℕ
 replySize len = blocksFor (len + 16)
 
--- that of the first of the modes
-abbrev pub firstSize : List Mode → ℕ
-firstSize [] = 0
-firstSize (m ∷ ms) = replySize (m .len)
+-- T-01: "B becomes the largest that any record needs." 0 without a record
+abbrev pub larger : ℕ → ℕ → ℕ
+larger a b = cond (ltb a b) b a
 
--- "unequal B": some mode's is not that of the first
-abbrev pub unequal : List Mode → Bool
-unequal ms = some (λ (m : Mode). not (eqb (replySize (m .len)) (firstSize ms))) ms
+abbrev pub largestSize : List Mode → ℕ
+largestSize [] = 0
+largestSize (m ∷ ms) = larger (replySize (m .len)) (largestSize ms)
 
--- "4 count of modes; 5 repeated OpModeID; 6 area over 1,024, or a record empty, over 64 or outside it; 7 unequal B", of the first m of `modes`
--- and an area of so many bytes. 0 where none applies
+-- "4 count of modes; 5 repeated OpModeID; 6 area over 1,024, or a record empty, over 64 or outside it", of the first m of `modes` and an area of
+-- so many bytes. 0 where none applies. T-01: "Load refusal 7 no longer occurs."
 unfoldable pub modesRefusal : List Mode → ℕ → ℕ → ℕ
 modesRefusal modes m area =
     cond (miscounted 16 m) 4
     (cond (repeated (modeIds (take m modes))) 5
     (cond (ltb 1024 area || some (badRecord area) (take m modes)) 6
-    (cond (unequal (take m modes)) 7
-    0)))
+    0))
 
 -- "1 count of key sets; 2 repeated KeySetID; 3 a set with the shill handle", of the first n of `sets`, then those above. "Where several apply, the
 -- first in the order written is given"
@@ -102,7 +100,7 @@ loadedCard sets modes area div key handle =
       «div_data» = div;
       «shill_key» = key;
       «shill_handle» = handle;
-      «reply_size» = firstSize modes;
+      «reply_size» = largestSize modes;
       session = noSession;
     }
 

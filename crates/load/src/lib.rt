@@ -8,7 +8,7 @@ use plaid_types::ModeSlot;
 use plaid_types::OpModeId;
 use plaid_types::Session;
 ghost use mathlib.Core.Path.{_≡_};
-ghost use mathlib.Core.Bool.{_||_, not};
+ghost use mathlib.Core.Bool.{_||_};
 ghost use mathlib.Core.List.{[], map};
 ghost use Prim.Native.Nat.{_+_, _<_, _≤_};
 ghost use lib.Dec.{eqb};
@@ -22,7 +22,8 @@ ghost use Rattle.load.specs.Load.{
   withHandle,
   badRecord,
   replySize,
-  unequal,
+  larger,
+  largestSize,
   modesRefusal,
   refusal,
   filled,
@@ -152,18 +153,24 @@ fn reply_size(m: Mode) -> usize
     padding::blocks_for(m.len) + 1
 }
 
-fn sizes_differ(modes: [Mode; Card::MODES], n: usize) -> bool
-    requires { ⌜ (0 < n) × (n ≤ 16) ⌝ }
-    ensures { λ r. ⌜ r ≡ unequal (take n modes) ⌝ }
+fn larger_of(a: usize, b: usize) -> usize
+    ensures { λ r. ⌜ r ≡ larger a b ⌝ }
 {
-    let first = reply_size(modes[0]);
-    let mut r = false;
-    let mut i: usize = 0;
-    while i < n {
-        r = either(r, reply_size(modes[i]) != first);
-        i += 1;
+    if a < b { b } else { a }
+}
+
+// The modes are taken from the last to the first.
+fn largest_size(modes: [Mode; Card::MODES], n: usize) -> usize
+    requires { ⌜ n ≤ 16 ⌝ }
+    ensures { λ r. ⌜ r ≡ largestSize (take n modes) ⌝ }
+{
+    let mut size: usize = 0;
+    let mut i = n;
+    while 0 < i {
+        i -= 1;
+        size = larger_of(reply_size(modes[i]), size);
     }
-    r
+    size
 }
 
 fn modes_fault(modes: [Mode; Card::MODES], n: usize, area: usize) -> u8
@@ -184,9 +191,6 @@ fn modes_fault(modes: [Mode; Card::MODES], n: usize, area: usize) -> u8
     }
     if bad_records(modes, n, area) {
         return 6;
-    }
-    if sizes_differ(modes, n) {
-        return 7;
     }
     0
 }
@@ -356,7 +360,7 @@ pub fn load(
         div_data: div_data,
         shill_key: shill_key,
         shill_handle: shill_handle,
-        reply_size: reply_size(modes[0]),
+        reply_size: largest_size(modes, mode_count),
         session: Session::none(),
     };
     Loaded {

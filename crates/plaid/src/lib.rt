@@ -163,16 +163,17 @@ pub extern "C" fn plaid_seal(of: Sealing, payload: &[u8], out: &mut [u8]) -> Sea
 pub struct Accepting {
     pub keys_hash: [u8; 16],
     pub div_data: [u8; 16],
+    pub record_length: usize,
 }
 
 #[no_mangle]
 pub extern "C" fn plaid_accept(of: Accepting, response: &[u8], work: &mut [u8]) -> Accepted
-    ensures told { λ r. ⌜ r ≡ acceptedOf (of .«keys_hash») (of .«div_data») (now (response .entry)) (length (now (work .entry))) ⌝ }
-    ensures bytes { λ _. ⌜ now (work .exit) ≡ workAfter (of .«keys_hash») (of .«div_data») (now (response .entry)) (now (work .entry)) ⌝ }
+    ensures told { λ r. ⌜ r ≡ acceptedOf (of .«keys_hash») (of .«div_data») (of .«record_length») (now (response .entry)) (length (now (work .entry))) ⌝ }
+    ensures bytes { λ _. ⌜ now (work .exit) ≡ workAfter (of .«keys_hash») (of .«div_data») (of .«record_length») (now (response .entry)) (now (work .entry)) ⌝ }
 {
     let keys_hash = of.keys_hash;
     let div_data = of.div_data;
-    reader_accept::accept_in(keys_hash, div_data, response, work)
+    reader_accept::accept_in(keys_hash, div_data, of.record_length, response, work)
 }
 
 // A part of a buffer: its start, counted from 0, and its length.

@@ -6,12 +6,12 @@ use Prim.Native.Nat.{ℕ, _<_, _≤_}
 use borrow.Author.Tests.{lt-ltb, le-ltb}
 use lib.ListN.{length, take, replicate, length-replicate}
 use Rattle.octets.specs.Lists.{over}
-use Rattle.reader_accept.specs.Accept.{decipheredText, authenticated, recordLength, knownLength, acceptNumber, acceptedOf, workAfter}
+use Rattle.reader_accept.specs.Accept.{decipheredText, authenticated, bodyLength, hasRecord, acceptable, knownLength, acceptNumber, acceptedOf, workAfter}
 use Rattle.reader_accept.specs.Laws.{known, length-text}
 use Rattle.reader_accept.specs.declared.Accepted.{Accepted}
 use Rattle.octets.specs.Writes.{take-over}
 use Rattle.reader_accept.proofs.Writes.{over-again}
-use Rattle.reader_accept.proofs.Tests.{none-refused, some-accepted}
+use Rattle.reader_accept.proofs.Tests.{has-acceptable}
 
 number-18 : (n room : ℕ) (ok : Bool) → knownLength n ≡ false → acceptNumber n room ok ≡ 18
 unfolding acceptNumber
@@ -25,22 +25,22 @@ number-of : (n room : ℕ) (ok : Bool) → knownLength n ≡ true → n ≤ room
 unfolding acceptNumber
 number-of n room ok k l = simp (k, le-ltb room n l)
 
-module _ (hash div response work : List ℕ) where
+module _ (hash div : List ℕ) (len : ℕ) (response work : List ℕ) where
   -- what is handed back, and the work buffer
   abbrev Answer : Accepted → List ℕ → Type 0
-  Answer r e = (r ≡ acceptedOf hash div response (length work)) × (e ≡ workAfter hash div response work)
+  Answer r e = (r ≡ acceptedOf hash div len response (length work)) × (e ≡ workAfter hash div len response work)
 
   pub length-unknown : knownLength (length response) ≡ false → Answer (record { number = 18; length = 0 }) work
   unfolding acceptedOf workAfter
   length-unknown k =
-      let n = number-18 (length response) (length work) (authenticated (decipheredText hash response) div) k in
+      let n = number-18 (length response) (length work) (acceptable (decipheredText hash response) div len) k in
       (simp n, simp n)
 
   module _ (k : knownLength (length response) ≡ true) where
     pub work-short : length work < length response → Answer (record { number = 19; length = 0 }) work
     unfolding acceptedOf workAfter
     work-short l =
-        let n = number-19 (length response) (length work) (authenticated (decipheredText hash response) div) k l in
+        let n = number-19 (length response) (length work) (acceptable (decipheredText hash response) div len) k l in
         (simp n, simp n)
 
     long : length (decipheredText hash response) ≡ length response
@@ -48,27 +48,29 @@ module _ (hash div response work : List ℕ) where
 
     -- what was judged is the deciphered text
     judged-is : {e : List ℕ} {r : ℕ} → e ≡ over work 0 (decipheredText hash response) →
-        r ≡ cond (authenticated (take (length response) e) div) (recordLength (take (length response) e)) 0 →
-        r ≡ cond (authenticated (decipheredText hash response) div) (recordLength (decipheredText hash response)) 0
+        r ≡ cond (authenticated (take (length response) e) div) (bodyLength (take (length response) e)) 0 →
+        r ≡ cond (authenticated (decipheredText hash response) div) (bodyLength (decipheredText hash response)) 0
     judged-is q j = rw (ap (take (length response)) q ∙ take-over work (decipheredText hash response) (length response) long) at j
 
-    module _ (l : length response ≤ length work) {e : List ℕ} {r : ℕ} (q : e ≡ over work 0 (decipheredText hash response))
-        (j : r ≡ cond (authenticated (take (length response) e) div) (recordLength (take (length response) e)) 0) where
-      pub text-refused : {e′ : List ℕ} → r ≡ 0 → e′ ≡ over e 0 (replicate (length response) 0) → Answer (record { number = 20; length = 0 }) e′
+    module _ (l : length response ≤ length work) {e : List ℕ} {r : ℕ} {a : Bool} (q : e ≡ over work 0 (decipheredText hash response))
+        (j : r ≡ cond (authenticated (take (length response) e) div) (bodyLength (take (length response) e)) 0) (p : a ≡ hasRecord len r) where
+      number-is : acceptNumber (length response) (length work) (acceptable (decipheredText hash response) div len) ≡ cond a 0 20
+      number-is =
+          let s : List ℕ = decipheredText hash response in
+          number-of (length response) (length work) (acceptable s div len) k l ∙ ap (λ (b : Bool). cond b 0 20) (sym (has-acceptable s div len (judged-is q j) p))
+
+      pub text-refused : {e′ : List ℕ} → a ≡ false → e′ ≡ over e 0 (replicate (length response) 0) → Answer (record { number = 20; length = 0 }) e′
       unfolding acceptedOf workAfter
       text-refused {e′} z w =
           let s : List ℕ = decipheredText hash response in
-          let f : authenticated s div ≡ false = none-refused s div (judged-is q j) z in
-          let n : acceptNumber (length response) (length work) (authenticated s div) ≡ 20 = number-of (length response) (length work) (authenticated s div) k l ∙ ap (λ (b : Bool). cond b 0 20) f in
+          let n : acceptNumber (length response) (length work) (acceptable s div len) ≡ 20 = number-is ∙ ap (λ (b : Bool). cond b 0 20) z in
           let o : List ℕ = replicate (length response) 0 in (
             simp n,
             simp n (w ∙ ap (λ (x : List ℕ). over x 0 o) q ∙ over-again work s o (long ∙ sym (length-replicate {A = ℕ} (length response) 0))),
           )
 
-      pub text-accepted : (r ≡ 0 → ⊥) → Answer (record { number = 0; length = r }) e
+      pub text-accepted : a ≡ true → Answer (record { number = 0; length = len }) e
       unfolding acceptedOf workAfter
       text-accepted z =
-          let s : List ℕ = decipheredText hash response in
-          let a = some-accepted s div (judged-is q j) z in
-          let n : acceptNumber (length response) (length work) (authenticated s div) ≡ 0 = number-of (length response) (length work) (authenticated s div) k l ∙ ap (λ (b : Bool). cond b 0 20) (a .0) in
-          (simp (n, a .1), simp n q)
+          let n : acceptNumber (length response) (length work) (acceptable (decipheredText hash response) div len) ≡ 0 = number-is ∙ ap (λ (b : Bool). cond b 0 20) z in
+          (simp n, simp n q)

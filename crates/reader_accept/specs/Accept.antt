@@ -1,4 +1,4 @@
--- Document 01, "The reader": Accept.
+-- Document 01, "The reader": Accept, with T-01 of document 02.
 use mathlib.Core.Bool.{Bool, cond, _&&_, _||_}
 use mathlib.Core.List.{List}
 use Prim.Native.Nat.{ℕ, _+_, _-_, _/_}
@@ -26,9 +26,17 @@ rightBody s t div = leb (1 + 16) t && (leb t (64 + 16) && same (part s (t - 16) 
 unfoldable pub authenticated : List ℕ → List ℕ → Bool
 authenticated s div = rightly s && rightBody s (textLength s) div
 
--- the bytes before them: how many they are
-abbrev pub recordLength : List ℕ → ℕ
-recordLength s = textLength s - 16
+-- the bytes before them, the body: how many they are
+abbrev pub bodyLength : List ℕ → ℕ
+bodyLength s = textLength s - 16
+
+-- T-01: "The reader gets the mode's record length", len here. "A shorter body, or a length of 0", is the other case
+unfoldable pub hasRecord : ℕ → ℕ → Bool
+hasRecord len body = leb 1 len && leb len body
+
+-- what 20 is not given to. T-01: "A shorter body, or a length of 0, gives refusal 20", the number of what is not authenticated
+unfoldable pub acceptable : List ℕ → List ℕ → ℕ → Bool
+acceptable s div len = authenticated s div && hasRecord len (bodyLength s)
 
 -- "length not 32, 48, 64, 80 or 96"
 unfoldable pub knownLength : ℕ → Bool
@@ -39,13 +47,13 @@ knownLength n = eqb n 32 || (eqb n 48 || (eqb n 64 || (eqb n 80 || eqb n 96)))
 unfoldable pub acceptNumber : ℕ → ℕ → Bool → ℕ
 acceptNumber n room ok = cond (knownLength n) (cond (ltb room n) 19 (cond ok 0 20)) 18
 
--- what is handed back: the number, and how many bytes of the work buffer are the record. "On any of the three the returned part is empty."
+-- what is handed back: the number, and how many bytes of the work buffer are the record, by T-01 "that many". "On any of the three the returned part
+-- is empty."
 abbrev pub acceptAnswer : ℕ → ℕ → Accepted
-acceptAnswer number n = record { number = number; length = cond (eqb number 0) n 0 }
+acceptAnswer number len = record { number = number; length = cond (eqb number 0) len 0 }
 
-unfoldable pub acceptedOf : List ℕ → List ℕ → List ℕ → ℕ → Accepted
-acceptedOf hash div response room =
-    acceptAnswer (acceptNumber (length response) room (authenticated (decipheredText hash response) div)) (recordLength (decipheredText hash response))
+unfoldable pub acceptedOf : List ℕ → List ℕ → ℕ → List ℕ → ℕ → Accepted
+acceptedOf hash div len response room = acceptAnswer (acceptNumber (length response) room (acceptable (decipheredText hash response) div len)) len
 
 -- the work buffer afterwards. Declined by 18 or 19: "a decline writes nothing". By 20: "the deciphered bytes zeroed". Otherwise it has the
 -- deciphered bytes. "Bytes beyond the response's length are untouched."
@@ -53,10 +61,10 @@ abbrev pub workOf : ℕ → List ℕ → ℕ → List ℕ → List ℕ
 workOf number text n work =
     cond (eqb number 0) (over work 0 text) (cond (eqb number 20) (over work 0 (replicate n 0)) work)
 
-unfoldable pub workAfter : List ℕ → List ℕ → List ℕ → List ℕ → List ℕ
-workAfter hash div response work =
-    workOf (acceptNumber (length response) (length work) (authenticated (decipheredText hash response) div)) (decipheredText hash response) (length response) work
+unfoldable pub workAfter : List ℕ → List ℕ → ℕ → List ℕ → List ℕ → List ℕ
+workAfter hash div len response work =
+    workOf (acceptNumber (length response) (length work) (acceptable (decipheredText hash response) div len)) (decipheredText hash response) (length response) work
 
--- "these are returned as a part of the work buffer"
+-- "these are returned as a part of the work buffer": its first bytes, by T-01 as many as the record's length
 abbrev pub recordPart : List ℕ → Accepted → List ℕ
 recordPart work a = part work 0 (a .length)

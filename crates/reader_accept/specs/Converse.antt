@@ -1,5 +1,5 @@
--- The reverse of `RoundTrip.antt`: a response that Accept takes is the card's reply for the record that Accept returns, byte for byte. Assumes
--- nothing.
+-- The reverse of `RoundTrip.antt`: a response that Accept takes is the card's reply, byte for byte, for a body whose first bytes are the record that
+-- Accept returns. Assumes nothing.
 use mathlib.Core.Path.{_≡_, refl, sym, ap, ap₂, _∙_}
 use mathlib.Core.Bool.{Bool, true, false, cond}
 use mathlib.Core.List.{List, _++_}
@@ -8,12 +8,12 @@ use native.Mathlib.Omega.{arith}
 use borrow.Author.Tests.{leb-true}
 use lib.Dec.{ltb}
 use lib.ListN.{length, take, drop}
-use lib.Seq.{take-add, take-append-le, length-take-le}
+use lib.Seq.{take-add, take-take, take-append-le}
 use Rattle.octets.specs.Bytes.{Bytes, Block}
 use Rattle.octets.specs.Same.{split-and, same-true}
 use Rattle.octets.specs.Lists.{part, over, length-part}
 use Rattle.octets.specs.Writes.{over-front}
-use Rattle.octets.specs.ByteLists.{zeros-bytes, take-bytes, part-bytes}
+use Rattle.octets.specs.ByteLists.{zeros-bytes, part-bytes}
 use Rattle.aes.specs.Aes.{aes, invAes}
 use Rattle.padding.specs.Method2.{blocksFor, padded, unpadded, rightly}
 use Rattle.padding.specs.Laws.{unpadded-lt, unpadded-whole, padded-unpadded}
@@ -21,7 +21,7 @@ use Rattle.padding.specs.declared.Unpadded.the-variants.{Text}
 use Rattle.cbc.specs.Cbc.{encrypted, zeros}
 use Rattle.cbc.specs.Laws.{decrypted-bytes}
 use Rattle.cbc.specs.Aes.{aes-cipher, encrypted-decrypted-aes}
-use Rattle.reader_accept.specs.Accept.{decipheredText, textLength, rightBody, authenticated, recordLength, knownLength, acceptNumber, acceptedOf, workAfter, recordPart}
+use Rattle.reader_accept.specs.Accept.{decipheredText, textLength, rightBody, authenticated, bodyLength, hasRecord, acceptable, knownLength, acceptNumber, acceptedOf, workAfter, recordPart}
 use Rattle.reader_accept.specs.Laws.{Known, known, length-text}
 use Rattle.reader_accept.specs.RoundTrip.{cardReply}
 
@@ -57,70 +57,99 @@ authentic-by s div e =
       last = same-true (part s (textLength s - 16) 16) div (m .1);
     }
 
--- a front of a list and the part behind it; a front of a text that stands over a buffer
-front-and-part : (s : List ℕ) (n k : ℕ) → take (n + k) s ≡ take n s ++ part s n k
-unfolding part
-front-and-part s n k = take-add n k s
+-- a body that has so many bytes, and not none
+has-by : (len body : ℕ) → hasRecord len body ≡ true → (1 ≤ len) × (len ≤ body)
+unfolding hasRecord
+has-by len body e = let a = split-and _ _ e in (leb-true 1 len (a .0), leb-true len body (a .1))
 
-over-taken : (b s : List ℕ) (n : ℕ) → n ≤ length s → part (over b 0 s) 0 n ≡ take n s
+-- both, of a response
+record Acceptable (s div : List ℕ) (len : ℕ) : Type 0 where
+  body : Authentic s div
+  has : (1 ≤ len) × (len ≤ bodyLength s)
+
+acceptable-by : (s div : List ℕ) (len : ℕ) → acceptable s div len ≡ true → Acceptable s div len
+unfolding acceptable
+acceptable-by s div len e = let a = split-and _ _ e in record { body = authentic-by s div (a .0); has = has-by len (bodyLength s) (a .1) }
+
+-- a front of a list and the part behind it; a front of a text that stands over a buffer, and of a longer front of the text
+front-and-part : (s : List ℕ) (n k : ℕ) → part s 0 n ++ part s n k ≡ take (n + k) s
 unfolding part
-over-taken b s n h = ap (take n) (over-front b s) ∙ take-append-le n s (drop (length s) b) h
+front-and-part s n k = sym (take-add n k s)
+
+over-taken : (b s : List ℕ) (n m : ℕ) → n ≤ m → n ≤ length s → part (over b 0 s) 0 n ≡ part (part s 0 m) 0 n
+unfolding part
+over-taken b s n m l h = ap (take n) (over-front b s) ∙ take-append-le n s (drop (length s) b) h ∙ sym (take-take n m s l)
 
 -- what Accept returns: a part of the work buffer afterwards
-abbrev pub returned : List ℕ → List ℕ → List ℕ → List ℕ → List ℕ
-returned hash div response work = recordPart (workAfter hash div response work) (acceptedOf hash div response (length work))
+abbrev pub returned : List ℕ → List ℕ → ℕ → List ℕ → List ℕ → List ℕ
+returned hash div len response work = recordPart (workAfter hash div len response work) (acceptedOf hash div len response (length work))
 
--- the response is the reply for what is returned
-pub record IsReply (hash div response work : List ℕ) : Type 0 where
+-- the body of a response: what "must stand before" DivData
+abbrev pub bodyIn : List ℕ → List ℕ → List ℕ
+bodyIn hash response = part (decipheredText hash response) 0 (bodyLength (decipheredText hash response))
+
+-- the response is the reply for its body, and the body's first bytes are returned. The filler's bytes, which T-01 has a card make zero, are not looked
+-- at: behind its first len bytes the body may be any
+pub record IsReply (hash div : List ℕ) (len : ℕ) (response work : List ℕ) : Type 0 where
+  -- not "a length of 0", nor "a shorter body"
+  pub some-bytes : 1 ≤ len
+  pub within : len ≤ length (bodyIn hash response)
   -- "1 to 64 bytes"
-  pub some-bytes : 1 ≤ length (returned hash div response work)
-  pub most-bytes : length (returned hash div response work) ≤ 64
-  pub record-bytes : Bytes (returned hash div response work)
+  pub most-bytes : length (bodyIn hash response) ≤ 64
+  pub body-bytes : Bytes (bodyIn hash response)
   pub div-block : Block div
-  -- "the reply is record, DivData and padding under KeysHash by CBC"
-  pub replied : response ≡ cardReply hash (returned hash div response work) div
+  -- "hands back that many bytes"
+  pub record-first : returned hash div len response work ≡ part (bodyIn hash response) 0 len
+  pub record-long : length (returned hash div len response work) ≡ len
+  -- "the reply is record, DivData and padding under KeysHash by CBC", and "A shorter record is followed by a payload"
+  pub replied : response ≡ cardReply hash (bodyIn hash response) div
 
--- KeysHash and the response are bytes. (Nothing is asked of the work buffer; that DivData is a block follows)
-module _ (hash div response work : List ℕ) (hh : Bytes hash) (hr : Bytes response) (e : acceptedOf hash div response (length work) .number ≡ 0) where
-  number : acceptNumber (length response) (length work) (authenticated (decipheredText hash response) div) ≡ 0
+-- KeysHash and the response are bytes. (Nothing is asked of the work buffer, nor of len; that DivData is a block follows)
+module _ (hash div : List ℕ) (len : ℕ) (response work : List ℕ) (hh : Bytes hash) (hr : Bytes response)
+    (e : acceptedOf hash div len response (length work) .number ≡ 0) where
+  number : acceptNumber (length response) (length work) (acceptable (decipheredText hash response) div len) ≡ 0
   unfolding acceptedOf
   number = e
 
   sized : Known (length response)
-  sized = known (length response) (zero-seen (length response) (length work) (authenticated (decipheredText hash response) div) number .0)
+  sized = known (length response) (zero-seen (length response) (length work) (acceptable (decipheredText hash response) div len) number .0)
+
+  all-seen : Acceptable (decipheredText hash response) div len
+  all-seen =
+      acceptable-by (decipheredText hash response) div len
+      (zero-seen (length response) (length work) (acceptable (decipheredText hash response) div len) number .1)
 
   seen : Authentic (decipheredText hash response) div
-  seen =
-      authentic-by (decipheredText hash response) div
-      (zero-seen (length response) (length work) (authenticated (decipheredText hash response) div) number .1)
+  seen = all-seen .body
 
   text-less : textLength (decipheredText hash response) ≤ length (decipheredText hash response)
   text-less = omega (arith, unpadded-lt (decipheredText hash response) (textLength (decipheredText hash response)) (seen .unpads))
 
-  returned-is : returned hash div response work ≡ take (recordLength (decipheredText hash response)) (decipheredText hash response)
+  length-body : length (bodyIn hash response) ≡ bodyLength (decipheredText hash response)
+  length-body = length-part (decipheredText hash response) 0 (bodyLength (decipheredText hash response)) (omega (arith, text-less))
+
+  returned-is : returned hash div len response work ≡ part (bodyIn hash response) 0 len
   unfolding workAfter acceptedOf
-  returned-is = rw number (over-taken work (decipheredText hash response) (recordLength (decipheredText hash response)) (omega (arith, text-less)))
+  returned-is =
+      rw number
+      (over-taken work (decipheredText hash response) len (bodyLength (decipheredText hash response)) (all-seen .has .1)
+      (omega (arith, all-seen .has .1, text-less)))
 
-  length-returned : length (returned hash div response work) ≡ recordLength (decipheredText hash response)
-  length-returned =
-      ap length returned-is
-      ∙ length-take-le (recordLength (decipheredText hash response)) (decipheredText hash response) (omega (arith, text-less))
-
-  -- the record and DivData, padded, are the deciphered bytes
-  text-is : padded (returned hash div response work ++ div) ≡ decipheredText hash response
+  -- the body and DivData, padded, are the deciphered bytes
+  text-is : padded (bodyIn hash response ++ div) ≡ decipheredText hash response
   text-is =
       let s : List ℕ = decipheredText hash response in
-      let all : recordLength s + 16 ≡ textLength s = omega (arith, seen .least) in
-      ap₂ (λ (x y : List ℕ). padded (x ++ y)) returned-is (sym (seen .last))
-      ∙ ap padded (sym (front-and-part s (recordLength s) 16) ∙ ap (λ (n : ℕ). take n s) all)
+      let all : bodyLength s + 16 ≡ textLength s = omega (arith, seen .least) in
+      ap (λ (y : List ℕ). padded (bodyIn hash response ++ y)) (sym (seen .last))
+      ∙ ap padded (front-and-part s (bodyLength s) 16 ∙ ap (λ (n : ℕ). take n s) all)
       ∙ padded-unpadded s (textLength s) (seen .unpads)
 
-  blocks-is : blocksFor (length (returned hash div response work) + 16) ≡ length response / 16
+  blocks-is : blocksFor (length (bodyIn hash response) + 16) ≡ length response / 16
   blocks-is =
       let s : List ℕ = decipheredText hash response in
-      omega (arith, length-returned, seen .least, unpadded-whole s (textLength s) (seen .unpads), length-text hash response (sized .whole), sized .whole)
+      omega (arith, length-body, seen .least, unpadded-whole s (textLength s) (seen .unpads), length-text hash response (sized .whole), sized .whole)
 
-  replied-is : response ≡ cardReply hash (returned hash div response work) div
+  replied-is : response ≡ cardReply hash (bodyIn hash response) div
   unfolding decipheredText
   replied-is =
       sym (encrypted-decrypted-aes 4 hash hh zeros response (zeros-bytes 16) hr (length response / 16) (omega (arith, sized .whole)))
@@ -136,16 +165,20 @@ module _ (hash div response work : List ℕ) (hh : Bytes hash) (hr : Bytes respo
   block-is =
       let s : List ℕ = decipheredText hash response in
       rw (← seen .last) (record {
-        long = length-part s (recordLength s) 16 (omega (arith, text-less, seen .least));
-        byte = part-bytes s (recordLength s) 16 text-bytes;
+        long = length-part s (bodyLength s) 16 (omega (arith, text-less, seen .least));
+        byte = part-bytes s (bodyLength s) 16 text-bytes;
       })
 
-  pub accepted-is-reply : IsReply hash div response work
+  pub accepted-is-reply : IsReply hash div len response work
   accepted-is-reply =
+      let inside : len ≤ length (bodyIn hash response) = omega (arith, length-body, all-seen .has .1) in
       record {
-        some-bytes = omega (arith, length-returned, seen .least);
-        most-bytes = omega (arith, length-returned, seen .most);
-        record-bytes = rw returned-is (take-bytes (recordLength (decipheredText hash response)) (decipheredText hash response) text-bytes);
+        some-bytes = all-seen .has .0;
+        within = inside;
+        most-bytes = omega (arith, length-body, seen .most);
+        body-bytes = part-bytes (decipheredText hash response) 0 (bodyLength (decipheredText hash response)) text-bytes;
         div-block = block-is;
+        record-first = returned-is;
+        record-long = ap length returned-is ∙ length-part (bodyIn hash response) 0 len (omega (arith, inside));
         replied = replied-is;
       }

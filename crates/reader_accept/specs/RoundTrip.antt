@@ -1,4 +1,4 @@
--- What a card replies is accepted, and the returned part is the record. Assumes nothing.
+-- What a card replies is accepted where it has a record of the length that Accept gets, and the returned part is that record. Assumes nothing.
 use mathlib.Core.Path.{_≡_, refl, ap, _∙_}
 use mathlib.Core.Bool.{Bool, true, false, cond}
 use mathlib.Core.List.{List, _∷_, _++_, append-assoc}
@@ -6,7 +6,7 @@ use Prim.Native.Nat.{ℕ, zero, suc, _+_, _-_, _*_, _/_, _<_, _≤_}
 use native.Mathlib.Omega.{arith}
 use borrow.Author.Tests.{le-ltb, lt-ltb, le-leb}
 use lib.ListN.{length, take, drop, replicate, length-append}
-use lib.Seq.{take-at, drop-append-le, drop-at}
+use lib.Seq.{take-at, take-append-le, drop-append-le, drop-at}
 use Rattle.octets.specs.Bytes.{Bytes, Block}
 use Rattle.octets.specs.Same.{same-refl}
 use Rattle.octets.specs.Lists.{part, over}
@@ -19,11 +19,12 @@ use Rattle.padding.specs.declared.Unpadded.the-variants.{Text, Malformed}
 use Rattle.cbc.specs.Cbc.{encrypted, decrypted, zeros}
 use Rattle.cbc.specs.Aes.{decrypted-encrypted-aes}
 use Rattle.cbc.specs.Lengths.{length-encrypted}
-use Rattle.reader_accept.specs.Accept.{decipheredText, textLength, rightBody, authenticated, recordLength, knownLength, acceptNumber, acceptedOf, workAfter, recordPart}
+use Rattle.reader_accept.specs.Accept.{decipheredText, textLength, rightBody, authenticated, bodyLength, hasRecord, acceptable, knownLength, acceptNumber, acceptedOf, workAfter, recordPart}
 
--- "the reply is record, DivData and padding", enciphered by CBC under KeysHash: the answer of a card that accepted
+-- Document 01: "the reply is record, DivData and padding", enciphered by CBC under KeysHash: the answer of a card that accepted. T-01: "A shorter
+-- record is followed by a payload of zero bytes". The body is the record and that filler
 abbrev pub cardReply : List ℕ → List ℕ → List ℕ → List ℕ
-cardReply hash rec div = encrypted (aes 4 hash) zeros (blocksFor (length rec + 16)) (padded (rec ++ div))
+cardReply hash body div = encrypted (aes 4 hash) zeros (blocksFor (length body + 16)) (padded (body ++ div))
 
 -- 17 to 80 bytes take 2 to 6 blocks
 known-at : (b : ℕ) → b ≤ 4 → knownLength (16 * b + 32) ≡ true
@@ -50,90 +51,108 @@ unfolding unpadded
 right-padded t = right-by (padded t) (length t) (rightly (padded t)) (unpadded-padded t)
 
 -- the text of a reply: its length, its last sixteen bytes, and that it is authentic
-module _ (rec div : List ℕ) (ld : length div ≡ 16) where
-  length-both : length (rec ++ div) ≡ length rec + 16
-  length-both = length-append rec div ∙ ap (λ (n : ℕ). length rec + n) ld
+module _ (body div : List ℕ) (ld : length div ≡ 16) where
+  length-both : length (body ++ div) ≡ length body + 16
+  length-both = length-append body div ∙ ap (λ (n : ℕ). length body + n) ld
 
-  last-block : part (padded (rec ++ div)) (length rec) 16 ≡ div
+  last-block : part (padded (body ++ div)) (length body) 16 ≡ div
   unfolding padded part
   last-block =
-      let p : List ℕ = 0x80 ∷ replicate (zeroBytes (length (rec ++ div))) 0 in
-      ap (take 16) (drop-append-le (length rec) (rec ++ div) p (omega (arith, length-both)) ∙ ap (λ (x : List ℕ). x ++ p) (drop-at rec div (length rec) refl)) ∙ take-at div p 16 ld
+      let p : List ℕ = 0x80 ∷ replicate (zeroBytes (length (body ++ div))) 0 in
+      ap (take 16) (drop-append-le (length body) (body ++ div) p (omega (arith, length-both)) ∙ ap (λ (x : List ℕ). x ++ p) (drop-at body div (length body) refl)) ∙ take-at div p 16 ld
 
-  front-record : (d : List ℕ) → part (over d 0 (padded (rec ++ div))) 0 (length rec) ≡ rec
+  front-body : (d : List ℕ) (n : ℕ) → n ≤ length body → part (over d 0 (padded (body ++ div))) 0 n ≡ take n body
   unfolding part over padded
-  front-record d =
-      let p : List ℕ = 0x80 ∷ replicate (zeroBytes (length (rec ++ div))) 0 in
-      let r : List ℕ = drop (0 + length (padded (rec ++ div))) d in
-      ap (take (length rec)) (append-assoc (rec ++ div) p r ∙ append-assoc rec div (p ++ r)) ∙ take-at rec (div ++ (p ++ r)) (length rec) refl
+  front-body d n h =
+      let p : List ℕ = 0x80 ∷ replicate (zeroBytes (length (body ++ div))) 0 in
+      let r : List ℕ = drop (0 + length (padded (body ++ div))) d in
+      ap (take n) (append-assoc (body ++ div) p r ∙ append-assoc body div (p ++ r)) ∙ take-append-le n body (div ++ (p ++ r)) h
 
-  text-long : textLength (padded (rec ++ div)) ≡ length rec + 16
-  text-long = right-padded (rec ++ div) .1 ∙ length-both
+  text-long : textLength (padded (body ++ div)) ≡ length body + 16
+  text-long = right-padded (body ++ div) .1 ∙ length-both
 
-  authentic : 1 ≤ length rec → length rec ≤ 64 → authenticated (padded (rec ++ div)) div ≡ true
+  body-long : bodyLength (padded (body ++ div)) ≡ length body
+  body-long = let z : length body + 16 - 16 ≡ length body = omega arith in ap (λ (n : ℕ). n - 16) text-long ∙ z
+
+  authentic : 1 ≤ length body → length body ≤ 64 → authenticated (padded (body ++ div)) div ≡ true
   unfolding authenticated rightBody
   authentic h l =
-      let z : length rec + 16 - 16 ≡ length rec = omega arith in
+      let z : length body + 16 - 16 ≡ length body = omega arith in
       rw (
-        right-padded (rec ++ div) .0,
+        right-padded (body ++ div) .0,
         text-long,
-        le-leb (1 + 16) (length rec + 16) (omega arith),
-        le-leb (length rec + 16) (64 + 16) (omega arith),
+        le-leb (1 + 16) (length body + 16) (omega arith),
+        le-leb (length body + 16) (64 + 16) (omega arith),
         z,
         last-block,
       )
       (same-refl div)
 
-module _ (hash rec div work : List ℕ) (hh : Bytes hash) (hr : Bytes rec) (hd : Block div) (h : 1 ≤ length rec) (l : length rec ≤ 64) where
+-- the body is 1 to 64 bytes, whatever they are, and len any number
+module _ (hash body div : List ℕ) (len : ℕ) (work : List ℕ) (hh : Bytes hash) (hb : Bytes body) (hd : Block div) (h : 1 ≤ length body) (l : length body ≤ 64) where
   blocks : ℕ
-  blocks = blocksFor (length rec + 16)
+  blocks = blocksFor (length body + 16)
 
-  text-bytes : Bytes (padded (rec ++ div))
-  text-bytes = padded-bytes (rec ++ div) (append-bytes rec div hr (hd .byte))
+  text-bytes : Bytes (padded (body ++ div))
+  text-bytes = padded-bytes (body ++ div) (append-bytes body div hb (hd .byte))
 
-  text-blocks : length (padded (rec ++ div)) ≡ 16 * blocks
+  text-blocks : length (padded (body ++ div)) ≡ 16 * blocks
   unfolding blocks
-  text-blocks = length-padded (rec ++ div) ∙ ap (λ (n : ℕ). 16 * blocksFor n) (length-both rec div (hd .long))
+  text-blocks = length-padded (body ++ div) ∙ ap (λ (n : ℕ). 16 * blocksFor n) (length-both body div (hd .long))
 
-  length-reply : length (cardReply hash rec div) ≡ 16 * blocks
+  length-reply : length (cardReply hash body div) ≡ 16 * blocks
   unfolding blocks
-  length-reply = length-encrypted (aes 4 hash) (length-aes 4 hash) blocks zeros (padded (rec ++ div))
+  length-reply = length-encrypted (aes 4 hash) (length-aes 4 hash) blocks zeros (padded (body ++ div))
 
-  reply-text : decipheredText hash (cardReply hash rec div) ≡ padded (rec ++ div)
+  reply-text : decipheredText hash (cardReply hash body div) ≡ padded (body ++ div)
   unfolding decipheredText blocks
   reply-text =
-      let z : length (cardReply hash rec div) / 16 ≡ blocks = omega (arith, length-reply) in
-      ap (λ (n : ℕ). decrypted (invAes 4 hash) zeros n (cardReply hash rec div)) z
-      ∙ decrypted-encrypted-aes 4 hash hh zeros (padded (rec ++ div)) (zeros-bytes 16) text-bytes blocks text-blocks
+      let z : length (cardReply hash body div) / 16 ≡ blocks = omega (arith, length-reply) in
+      ap (λ (n : ℕ). decrypted (invAes 4 hash) zeros n (cardReply hash body div)) z
+      ∙ decrypted-encrypted-aes 4 hash hh zeros (padded (body ++ div)) (zeros-bytes 16) text-bytes blocks text-blocks
 
   -- with a work buffer that is shorter
-  pub reply-short : length work < length (cardReply hash rec div) → acceptedOf hash div (cardReply hash rec div) (length work) .number ≡ 19
+  pub reply-short : length work < length (cardReply hash body div) → acceptedOf hash div len (cardReply hash body div) (length work) .number ≡ 19
   unfolding acceptedOf acceptNumber blocks
-  reply-short s = rw (ap knownLength length-reply ∙ known-blocks (length rec) l, lt-ltb (length work) (length (cardReply hash rec div)) s)
+  reply-short s = rw (ap knownLength length-reply ∙ known-blocks (length body) l, lt-ltb (length work) (length (cardReply hash body div)) s)
 
   -- with a work buffer that is long enough
-  module _ (room : length (cardReply hash rec div) ≤ length work) where
-    number : acceptNumber (length (cardReply hash rec div)) (length work) (authenticated (decipheredText hash (cardReply hash rec div)) div) ≡ 0
-    unfolding acceptNumber blocks
-    number =
+  module _ (room : length (cardReply hash body div) ≤ length work) where
+    number-by :
+        (b : Bool)
+        → hasRecord len (length body) ≡ b
+        → acceptNumber (length (cardReply hash body div)) (length work) (acceptable (decipheredText hash (cardReply hash body div)) div len) ≡ cond b 0 20
+    unfolding acceptNumber acceptable blocks
+    number-by b e =
         rw (
-          ap knownLength length-reply ∙ known-blocks (length rec) l,
-          le-ltb (length work) (length (cardReply hash rec div)) room,
+          ap knownLength length-reply ∙ known-blocks (length body) l,
+          le-ltb (length work) (length (cardReply hash body div)) room,
           reply-text,
-          authentic rec div (hd .long) h l,
+          authentic body div (hd .long) h l,
+          body-long body div (hd .long),
+          e,
         )
 
-    -- the number is 0, and the record's length is told
-    pub reply-accepted : acceptedOf hash div (cardReply hash rec div) (length work) ≡ record { number = 0; length = length rec }
+    -- T-01: "A shorter body, or a length of 0, gives refusal 20", of a card's own reply too
+    pub reply-other : hasRecord len (length body) ≡ false → acceptedOf hash div len (cardReply hash body div) (length work) ≡ record { number = 20; length = 0 }
     unfolding acceptedOf
-    reply-accepted =
-        let z : length rec + 16 - 16 ≡ length rec = omega arith in
-        rw (number, ap recordLength reply-text ∙ ap (λ (n : ℕ). n - 16) (text-long rec div (hd .long)) ∙ z)
+    reply-other none = rw (number-by false none)
 
-    reply-work : workAfter hash div (cardReply hash rec div) work ≡ over work 0 (padded (rec ++ div))
-    unfolding workAfter
-    reply-work = rw (number, reply-text)
+    -- a body that has so many bytes, and not none
+    module _ (some : 1 ≤ len) (within : len ≤ length body) where
+      number : acceptNumber (length (cardReply hash body div)) (length work) (acceptable (decipheredText hash (cardReply hash body div)) div len) ≡ 0
+      unfolding hasRecord
+      number = number-by true (rw (le-leb 1 len some, le-leb len (length body) within))
 
-    -- the part that is returned is the record
-    pub reply-record : recordPart (workAfter hash div (cardReply hash rec div) work) (acceptedOf hash div (cardReply hash rec div) (length work)) ≡ rec
-    reply-record = rw (reply-accepted, reply-work) (front-record rec div (hd .long) work)
+      -- the number is 0, and the record's length is told: "hands back that many bytes"
+      pub reply-accepted : acceptedOf hash div len (cardReply hash body div) (length work) ≡ record { number = 0; length = len }
+      unfolding acceptedOf
+      reply-accepted = rw number
+
+      reply-work : workAfter hash div len (cardReply hash body div) work ≡ over work 0 (padded (body ++ div))
+      unfolding workAfter
+      reply-work = rw (number, reply-text)
+
+      -- the part that is returned is the first so many bytes of the body
+      pub reply-record : recordPart (workAfter hash div len (cardReply hash body div) work) (acceptedOf hash div len (cardReply hash body div) (length work)) ≡ take len body
+      reply-record = rw (reply-accepted, reply-work) (front-body body div (hd .long) work len within)

@@ -9,7 +9,8 @@ ghost use Rattle.reader_accept.specs.Accept.{
   decipheredText,
   rightBody,
   authenticated,
-  recordLength,
+  bodyLength,
+  hasRecord,
   knownLength,
   acceptedOf,
   workAfter,
@@ -52,8 +53,8 @@ fn decipher_into(hash: [u8; 16], response: &[u8], work: &mut [u8])
     cbc::decipher(&hash, &w, [0u8; 16], &mut work[..n], 0);
 }
 
-// The record's length in a text of t bytes that ends with DivData; 0: not authenticated.
-fn record_length(s: &[u8], t: usize, div: [u8; 16]) -> usize
+// The body's length in a text of t bytes that ends with DivData; 0: not authenticated.
+fn body_length(s: &[u8], t: usize, div: [u8; 16]) -> usize
     requires { ⌜ t ≤ length (now s) ⌝ }
     ensures { λ r. ⌜ r ≡ cond (rightBody (now (s .entry)) t div) (t - 16) 0 ⌝ }
 {
@@ -71,12 +72,22 @@ fn record_length(s: &[u8], t: usize, div: [u8; 16]) -> usize
 
 // The same of whole blocks with their padding.
 fn judged(s: &[u8], div: [u8; 16]) -> usize
-    ensures { λ r. ⌜ r ≡ cond (authenticated (now (s .entry)) div) (recordLength (now (s .entry))) 0 ⌝ }
+    ensures { λ r. ⌜ r ≡ cond (authenticated (now (s .entry)) div) (bodyLength (now (s .entry))) 0 ⌝ }
 {
     match padding::unpad(s) {
-        padding::Unpadded::Text(t) => record_length(s, t, div),
+        padding::Unpadded::Text(t) => body_length(s, t, div),
         padding::Unpadded::Malformed => 0,
     }
+}
+
+// A body of so many bytes has a record of len bytes.
+fn has_record(len: usize, body: usize) -> bool
+    ensures { λ r. ⌜ r ≡ hasRecord len body ⌝ }
+{
+    if len == 0 {
+        return false;
+    }
+    len <= body
 }
 
 // Zeros over the first n bytes.
@@ -91,11 +102,12 @@ fn clear(work: &mut [u8], n: usize)
 pub fn accept_in(
     keys_hash: [u8; 16],
     div_data: [u8; 16],
+    record_length: usize,
     response: &[u8],
     work: &mut [u8],
 ) -> Accepted
-    ensures { λ r. ⌜ r ≡ acceptedOf «keys_hash» «div_data» (now (response .entry)) (length (now (work .entry))) ⌝ }
-    ensures { λ _. ⌜ now (work .exit) ≡ workAfter «keys_hash» «div_data» (now (response .entry)) (now (work .entry)) ⌝ }
+    ensures { λ r. ⌜ r ≡ acceptedOf «keys_hash» «div_data» «record_length» (now (response .entry)) (length (now (work .entry))) ⌝ }
+    ensures { λ _. ⌜ now (work .exit) ≡ workAfter «keys_hash» «div_data» «record_length» (now (response .entry)) (now (work .entry)) ⌝ }
 {
     let n = response.len();
     if !known_length(n) {
@@ -111,8 +123,8 @@ pub fn accept_in(
         };
     }
     decipher_into(keys_hash, response, work);
-    let r = judged(&work[..n], div_data);
-    if r == 0 {
+    let body = judged(&work[..n], div_data);
+    if !has_record(record_length, body) {
         clear(work, n);
         return Accepted {
             number: 20,
@@ -121,7 +133,7 @@ pub fn accept_in(
     }
     Accepted {
         number: 0,
-        length: r,
+        length: record_length,
     }
 }
 

@@ -2,7 +2,7 @@
 use mathlib.Core.Path.{_≡_, refl, sym, ap, ap₂, _∙_}
 use mathlib.Core.Bool.{Bool, true, false, cond, _||_, true≢false}
 use mathlib.Core.List.{List, map}
-use Prim.Native.Nat.{ℕ, zero, suc, _*_, _<_, _≤_}
+use Prim.Native.Nat.{ℕ, zero, suc, _+_, _-_, _*_, _<_, _≤_}
 use native.Mathlib.Omega.{arith}
 use lib.Dec.{eqb, ltb}
 use lib.ListN.{length, getD, take, length-map}
@@ -25,6 +25,7 @@ use Rattle.load.specs.Load.{some, repeated}
 use Rattle.load.specs.Laws.{map-take, GoodRecord, Stocked, stocked-session}
 use Rattle.initial.specs.Initial.{slotOf, str1, blockOf, initialReply}
 use Rattle.final_command.specs.Final.{faKeyOf, keyOf, firstMode, finalReply}
+use Rattle.final_command.specs.Laws.{length-body, take-body, body-bytes}
 use Rattle.card.specs.Command.{replyTo, outcome, answerBytes, verdictOn}
 use Rattle.reader_list.specs.List.{numbers, given, listCommand, listNumber}
 use Rattle.reader_list.specs.Laws.{Taken, command-taken}
@@ -40,7 +41,7 @@ use Rattle.session_initial.specs.Held.{held, firstHeld, first-held}
 use Rattle.session_initial.specs.Answered.{Answers, list-answered, list-slot}
 use Rattle.session_final.specs.SealFrame.{seal-status, seal-ins}
 use Rattle.session_final.specs.SealText.{SharedSession}
-use Rattle.session_final.specs.SealReply.{sealedSlot, sealedRecord, sealed-found, length-sealedRecord, seal-reply}
+use Rattle.session_final.specs.SealReply.{sealedSlot, sealedRecord, sealedBody, sealed-found, length-sealedRecord, seal-reply}
 use Rattle.session.specs.Parts.{goes-on, call-bytes, call-card, block-text, text-div, text-rnd1, block-opens, winner-is, key-held}
 
 -- the reply to an initial and to a final command
@@ -90,7 +91,7 @@ counted-blocks ids n blocks a b f = by (eqb (length blocks) (256 * n)) refl
         absurd (f (simp (x, y, e)))
 
 -- a session between a card c and a reader
-module _ (c : Card) (ids : List KeySetId) (n : ℕ) (fresh₁ : List ℕ) (room₁ : ℕ) (blocks fa r2 payload : List ℕ) (mode : OpModeId) (fresh₂ : List ℕ) (room₂ : ℕ) (work : List ℕ) where
+module _ (c : Card) (ids : List KeySetId) (n : ℕ) (fresh₁ : List ℕ) (room₁ : ℕ) (blocks fa r2 payload : List ℕ) (mode : OpModeId) (fresh₂ : List ℕ) (room₂ len : ℕ) (work : List ℕ) where
   -- the KeySetIDs listed, their numbers in List's command, and the card's answer to it
   abbrev pub entries : List KeySetId
   entries = take n ids
@@ -134,7 +135,7 @@ module _ (c : Card) (ids : List KeySetId) (n : ℕ) (fresh₁ : List ℕ) (room�
     pub first-call : outcome c (listCommand listed) fresh₁ room₁ .answer .number ≡ 0
     pub not-14 : open₁ .number ≡ 14 → ⊥
     pub second-call : outcome card₁ command₂ fresh₂ room₂ .answer .number ≡ 0
-    pub not-19 : acceptedOf hash (open₁ .«div_data») answer₂ (length work) .number ≡ 19 → ⊥
+    pub not-19 : acceptedOf hash (open₁ .«div_data») len answer₂ (length work) .number ≡ 19 → ⊥
     -- "the first listed set that the card holds has equal FAKey at both ends"
     pub some-held : some (held c) entries ≡ true
     pub same-key : slot .«fa_key» ≡ fa
@@ -144,6 +145,8 @@ module _ (c : Card) (ids : List KeySetId) (n : ℕ) (fresh₁ : List ℕ) (room�
     pub no-earlier : (i : ℕ) → i < place → opensEntry ids blocks i ≡ false
     -- "the mode is held"
     pub mode-held : firstMode 0 mode (c .modes) < 16
+    -- T-01: "The reader gets the mode's record length, which a session needs to be the card's"
+    pub same-length : len ≡ sealedSlot c mode .len
     -- what the types of the inputs say: an array of sixteen KeySetIDs, numbers of two bytes, and bytes
     pub ids-long : length ids ≡ 16
     pub ids-small : (i : ℕ) → getD listed i 0 < 65536
@@ -281,10 +284,14 @@ module _ (c : Card) (ids : List KeySetId) (n : ℕ) (fresh₁ : List ℕ) (room�
     cmd-is = ap₂ (λ (d r : List ℕ). sealCommand fa d r r2 mode payload) open-div open-rnd1
 
     rec : List ℕ
-    rec = sealedRecord (withSession c s₁) mode
+    rec = sealedRecord c mode
 
-    answer-is : answer₂ ≡ cardReply (keysHashOf (part fresh₁ 0 16) r2) rec (c .«div_data»)
-    unfolding cmd₂ rec
+    -- the body that the card replies with
+    body : List ℕ
+    body = sealedBody (withSession c s₁) mode
+
+    answer-is : answer₂ ≡ cardReply (keysHashOf (part fresh₁ 0 16) r2) body (c .«div_data»)
+    unfolding cmd₂ body
     answer-is =
         let z : outcome (withSession c s₁) cmd₂ fresh₂ room₂ .answer .number ≡ 0 =
         sym (ap₂ (λ (e : Card) (x : List ℕ). outcome e x fresh₂ room₂ .answer .number) card-is cmd-is) ∙ k .second-call in
@@ -293,17 +300,25 @@ module _ (c : Card) (ids : List KeySetId) (n : ℕ) (fresh₁ : List ℕ) (room�
         ∙ ap (λ (r : Reply). r .bytes) (reply-final (withSession c s₁) cmd₂ fresh₂ (seal-ins fa (c .«div_data») (part fresh₁ 0 16) r2 mode payload))
         ∙ seal-reply (withSession c s₁) (slot .id) fa (part fresh₁ 0 16) r2 mode payload shared (stocked-session c s₁ g) (k .mode-held) fresh₂
 
-    good : GoodRecord (sealedSlot (withSession c s₁) mode) (c .«reply_size»)
-    unfolding s₁
-    good = g .good (firstMode 0 mode (c .modes)) (sealed-found (withSession c s₁) mode (stocked-session c s₁ g) (k .mode-held) .is-held)
+    good : GoodRecord (sealedSlot c mode) (c .«reply_size»)
+    good = g .good (firstMode 0 mode (c .modes)) (sealed-found c mode g (k .mode-held) .is-held)
 
-    rec-long : length rec ≡ sealedSlot (withSession c s₁) mode .len
+    -- the record is the body's front, of as many bytes as the reader was given
+    rec-long : length rec ≡ len
     unfolding rec
-    rec-long = length-sealedRecord (withSession c s₁) mode (stocked-session c s₁ g) (k .mode-held)
+    rec-long = length-sealedRecord c mode g (k .mode-held) ∙ sym (k .same-length)
 
-    rec-bytes : Bytes rec
-    unfolding rec s₁
-    rec-bytes = part-bytes (c .area) (sealedSlot c mode .start) (sealedSlot c mode .len) (k .area-bytes)
+    body-front : take len body ≡ rec
+    unfolding rec body s₁
+    body-front = take-body rec (c .«reply_size») len rec-long
+
+    body-long : length body ≡ length rec + (16 * (c .«reply_size» - 2) - length rec)
+    unfolding rec body s₁
+    body-long = length-body rec (c .«reply_size»)
+
+    text-bytes : Bytes body
+    unfolding rec body s₁
+    text-bytes = body-bytes rec (c .«reply_size») (part-bytes (c .area) (sealedSlot c mode .start) (sealedSlot c mode .len) (k .area-bytes))
 
     h₁ : List ℕ
     h₁ = keysHashOf (part fresh₁ 0 16) r2
@@ -313,44 +328,51 @@ module _ (c : Card) (ids : List KeySetId) (n : ℕ) (fresh₁ : List ℕ) (room�
     hash-is = ap (λ (r : List ℕ). keysHashOf r r2) open-rnd1
 
     -- what Accept gets is the card's reply
-    accepts-reply : acceptedOf hash (open₁ .«div_data») answer₂ (length work) ≡ acceptedOf h₁ (c .«div_data») (cardReply h₁ rec (c .«div_data»)) (length work)
+    accepts-reply : acceptedOf hash (open₁ .«div_data») len answer₂ (length work) ≡ acceptedOf h₁ (c .«div_data») len (cardReply h₁ body (c .«div_data»)) (length work)
     unfolding h₁
     accepts-reply =
-        ap₂ (λ (a b : List ℕ). acceptedOf a b answer₂ (length work)) hash-is open-div
-        ∙ ap (λ (a : List ℕ). acceptedOf h₁ (c .«div_data») a (length work)) answer-is
+        ap₂ (λ (a b : List ℕ). acceptedOf a b len answer₂ (length work)) hash-is open-div
+        ∙ ap (λ (a : List ℕ). acceptedOf h₁ (c .«div_data») len a (length work)) answer-is
 
     div-block : Block (c .«div_data»)
     div-block = record { long = g .div-long; byte = k .div-bytes }
 
-    some-bytes : 1 ≤ length rec
-    some-bytes = omega (arith, rec-long, good .some-bytes)
+    len-some : 1 ≤ len
+    len-some = omega (arith, k .same-length, good .some-bytes)
 
-    most-bytes : length rec ≤ 64
-    most-bytes = omega (arith, rec-long, good .most-bytes)
+    len-within : len ≤ length body
+    len-within = omega (arith, body-long, rec-long)
 
-    room-by : (t : Bool) → ltb (length work) (length (cardReply h₁ rec (c .«div_data»))) ≡ t → length (cardReply h₁ rec (c .«div_data»)) ≤ length work
+    some-bytes : 1 ≤ length body
+    some-bytes = omega (arith, len-some, len-within)
+
+    most-bytes : length body ≤ 64
+    most-bytes = omega (arith, body-long, rec-long, k .same-length, good .most-bytes, g .size-most)
+
+    room-by : (t : Bool) → ltb (length work) (length (cardReply h₁ body (c .«div_data»))) ≡ t → length (cardReply h₁ body (c .«div_data»)) ≤ length work
     unfolding h₁
     room-by true e =
         absurd
         (k .not-19
         (ap (λ (a : Accepted). a .number) accepts-reply
-        ∙ reply-short h₁ rec (c .«div_data») work (keysHash-bytes (part fresh₁ 0 16) r2) rec-bytes div-block some-bytes most-bytes (ltb-true _ _ e)))
-    room-by false e = ltb-false (length work) (length (cardReply h₁ rec (c .«div_data»))) e
+        ∙ reply-short h₁ body (c .«div_data») len work (keysHash-bytes (part fresh₁ 0 16) r2) text-bytes div-block some-bytes most-bytes (ltb-true _ _ e)))
+    room-by false e = ltb-false (length work) (length (cardReply h₁ body (c .«div_data»))) e
 
-    room-is : length (cardReply h₁ rec (c .«div_data»)) ≤ length work
-    room-is = room-by (ltb (length work) (length (cardReply h₁ rec (c .«div_data»)))) refl
+    room-is : length (cardReply h₁ body (c .«div_data»)) ≤ length work
+    room-is = room-by (ltb (length work) (length (cardReply h₁ body (c .«div_data»)))) refl
 
-    -- THE SESSION PROMISE: Accept gives no number, and returns the record of that mode
-    pub session-number : acceptedOf hash (open₁ .«div_data») answer₂ (length work) ≡ record { number = 0; length = sealedSlot c mode .len }
-    unfolding h₁ s₁ rec
+    -- THE SESSION PROMISE: Accept gives no number, and returns the record of that mode, and no byte of its payload
+    pub session-number : acceptedOf hash (open₁ .«div_data») len answer₂ (length work) ≡ record { number = 0; length = sealedSlot c mode .len }
+    unfolding h₁
     session-number =
         accepts-reply
-        ∙ reply-accepted h₁ rec (c .«div_data») work (keysHash-bytes (part fresh₁ 0 16) r2) rec-bytes div-block some-bytes most-bytes room-is
-        ∙ ap (λ (m : ℕ). record { number = 0; length = m }) rec-long
+        ∙ reply-accepted h₁ body (c .«div_data») len work (keysHash-bytes (part fresh₁ 0 16) r2) text-bytes div-block some-bytes most-bytes room-is len-some len-within
+        ∙ ap (λ (m : ℕ). record { number = 0; length = m }) (k .same-length)
 
-    pub session-record : recordPart (workAfter hash (open₁ .«div_data») answer₂ work) (acceptedOf hash (open₁ .«div_data») answer₂ (length work)) ≡ sealedRecord c mode
-    unfolding h₁ s₁ rec
+    pub session-record : recordPart (workAfter hash (open₁ .«div_data») len answer₂ work) (acceptedOf hash (open₁ .«div_data») len answer₂ (length work)) ≡ sealedRecord c mode
+    unfolding h₁ rec
     session-record =
-        ap₂ (λ (a b : List ℕ). recordPart (workAfter a b answer₂ work) (acceptedOf a b answer₂ (length work))) hash-is open-div
-        ∙ ap (λ (a : List ℕ). recordPart (workAfter h₁ (c .«div_data») a work) (acceptedOf h₁ (c .«div_data») a (length work))) answer-is
-        ∙ reply-record h₁ rec (c .«div_data») work (keysHash-bytes (part fresh₁ 0 16) r2) rec-bytes div-block some-bytes most-bytes room-is
+        ap₂ (λ (a b : List ℕ). recordPart (workAfter a b len answer₂ work) (acceptedOf a b len answer₂ (length work))) hash-is open-div
+        ∙ ap (λ (a : List ℕ). recordPart (workAfter h₁ (c .«div_data») len a work) (acceptedOf h₁ (c .«div_data») len a (length work))) answer-is
+        ∙ reply-record h₁ body (c .«div_data») len work (keysHash-bytes (part fresh₁ 0 16) r2) text-bytes div-block some-bytes most-bytes room-is len-some len-within
+        ∙ body-front

@@ -17,8 +17,8 @@ use Rattle.cbc.specs.Laws.{encrypted-front}
 use Rattle.plaid_types.specs.declared.ModeSlot.{ModeSlot}
 use Rattle.plaid_types.specs.declared.Card.{Card}
 use Rattle.load.specs.Laws.{modeAt, GoodRecord, Stocked}
-use Rattle.final_command.specs.Final.{textOf, keysHash, opMode, modeOf, acceptsFinal, replyKey, recordOf, sizeOf, replyText, replyBuffer, finalBytes, finalReply}
-use Rattle.final_command.specs.Laws.{size-loaded, least-is}
+use Rattle.final_command.specs.Final.{textOf, keysHash, opMode, modeOf, acceptsFinal, replyKey, recordOf, sizeOf, bodyOf, replyText, replyBuffer, finalBytes, finalReply}
+use Rattle.final_command.specs.Laws.{size-loaded, least-is, body-blocks}
 use Rattle.session_final.specs.Accepts.{named-found}
 
 -- a record of at most 64 bytes is replied whole
@@ -44,16 +44,26 @@ recordAt c m = part (c .area) (m .start) (m .len)
 abbrev pub namedRecord : Card → List ℕ → List ℕ
 namedRecord c d = recordAt c (namedSlot c d)
 
--- a record of a stocked card is as long as its slot says, and fills B blocks with DivData and padding
+-- T-01: the record with its "payload of zero bytes up to 16(B − 2) bytes in all"
+abbrev pub bodyAt : Card → ModeSlot → List ℕ
+bodyAt c m = bodyOf (recordAt c m) (c .«reply_size»)
+
+abbrev pub namedBody : Card → List ℕ → List ℕ
+namedBody c d = bodyAt c (namedSlot c d)
+
+-- a record of a stocked card is as long as its slot says, and its body fills B blocks with DivData and padding
 module _ (c : Card) (m : ModeSlot) (g : Stocked c) (r : GoodRecord m (c .«reply_size»)) where
   pub length-record : length (recordAt c m) ≡ m .len
   length-record = length-part (c .area) (m .start) (m .len) (omega (arith, r .inside, g .area-long))
 
-  pub record-fills : length (padded (recordAt c m ++ c .«div_data»)) ≡ 16 * c .«reply_size»
-  record-fills =
-      length-padded (recordAt c m ++ c .«div_data»)
-      ∙ ap (λ (n : ℕ). 16 * blocksFor n) (length-append (recordAt c m) (c .«div_data») ∙ ap₂ _+_ length-record (g .div-long))
-      ∙ ap (λ (n : ℕ). 16 * n) (r .size)
+  pub body-size : blocksFor (length (bodyAt c m) + 16) ≡ c .«reply_size»
+  body-size = body-blocks (recordAt c m) (c .«reply_size») (omega (arith, length-record, r .size))
+
+  pub body-fills : length (padded (bodyAt c m ++ c .«div_data»)) ≡ 16 * c .«reply_size»
+  body-fills =
+      length-padded (bodyAt c m ++ c .«div_data»)
+      ∙ ap (λ (n : ℕ). 16 * blocksFor n) (length-append (bodyAt c m) (c .«div_data») ∙ ap (λ (n : ℕ). length (bodyAt c m) + n) (g .div-long))
+      ∙ ap (λ (n : ℕ). 16 * n) body-size
 
 -- what the definition enciphers
 abbrev textBy : Card → List ℕ → List ℕ → List ℕ
@@ -68,17 +78,17 @@ reply-by c d fresh key text g p q l =
     (ap (over (replicate 96 0) 0) q)
     ∙ encrypted-over (aes 4 key) (replicate 96 0) text (c .«reply_size») l
 
--- "Then the reply is record, DivData and padding under KeysHash by CBC."
+-- "Then the reply is record, DivData and padding under KeysHash by CBC." T-01: "A shorter record is followed by a payload of zero bytes"
 pub record AcceptedReply (c : Card) (d fresh : List ℕ) : Type 0 where
   -- "the mode is held": the slot is, and it is that of the mode which bytes 0 and 1 of the text name
   pub is-held : namedSlot c d .held ≡ true
   pub is-mode : namedSlot c d .id ≡ opMode (textOf c d)
   -- "record": as many bytes of the record area as the load said
   pub record-long : length (namedRecord c d) ≡ namedSlot c d .len
-  -- "encipher B blocks": record, DivData and padding are B blocks, and nothing else stands there
-  pub fills : length (padded (namedRecord c d ++ c .«div_data»)) ≡ 16 * c .«reply_size»
-  -- "record, DivData and padding under KeysHash by CBC"
-  pub replied : finalReply c d fresh .bytes ≡ encrypted (aes 4 (keysHash c d)) zeros (c .«reply_size») (padded (namedRecord c d ++ c .«div_data»))
+  -- "encipher B blocks": body, DivData and padding are B blocks, and nothing else stands there
+  pub fills : length (padded (namedBody c d ++ c .«div_data»)) ≡ 16 * c .«reply_size»
+  -- "record", its payload, "DivData and padding under KeysHash by CBC"
+  pub replied : finalReply c d fresh .bytes ≡ encrypted (aes 4 (keysHash c d)) zeros (c .«reply_size») (padded (namedBody c d ++ c .«div_data»))
 
 module _ (c : Card) (d fresh : List ℕ) (g : Stocked c) where
   module _ (e : acceptsFinal c d ≡ true) where
@@ -89,9 +99,9 @@ module _ (c : Card) (d fresh : List ℕ) (g : Stocked c) where
     unfolding replyKey
     key-accepted = rw e
 
-    text-accepted : textBy c d fresh ≡ padded (namedRecord c d ++ c .«div_data»)
+    text-accepted : textBy c d fresh ≡ padded (namedBody c d ++ c .«div_data»)
     unfolding replyText
-    text-accepted = rw (e, record-whole (c .area) (namedSlot c d) (good-named .most-bytes))
+    text-accepted = rw (e, record-whole (c .area) (namedSlot c d) (good-named .most-bytes), size-loaded c (g .size-most))
 
     pub accepted-reply : AcceptedReply c d fresh
     accepted-reply =
@@ -99,10 +109,10 @@ module _ (c : Card) (d fresh : List ℕ) (g : Stocked c) where
           is-held = named-found c d g e .is-held;
           is-mode = named-found c d g e .is-mode;
           record-long = length-record c (namedSlot c d) g good-named;
-          fills = record-fills c (namedSlot c d) g good-named;
+          fills = body-fills c (namedSlot c d) g good-named;
           replied =
-              reply-by c d fresh (keysHash c d) (padded (namedRecord c d ++ c .«div_data»)) g key-accepted text-accepted
-              (record-fills c (namedSlot c d) g good-named);
+              reply-by c d fresh (keysHash c d) (padded (namedBody c d ++ c .«div_data»)) g key-accepted text-accepted
+              (body-fills c (namedSlot c d) g good-named);
         }
 
   -- "Otherwise the first 16B fresh bytes go by CBC under the shill key, unpadded." (That a call gets 253 fresh bytes is checked before)

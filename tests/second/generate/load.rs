@@ -10,16 +10,25 @@ pub fn good(random: &mut Random) -> Given {
     let set_count = random.edge(&[1, 2, 8], 1, 8);
     let mode_count = random.edge(&[1, 2, 16], 1, 16);
     let sets = sets(random, set_count, shill_handle);
-    // One B for all records: from 1 to 15 bytes, from 16 to 31, and so on; 64 alone.
-    let (least, longest) = random.pick(&[(1, 15), (16, 31), (32, 47), (48, 63), (64, 64)]);
+    let lengths = lengths(random, mode_count);
+    let longest = lengths.iter().copied().max().unwrap_or(0);
     let area = random.edge(&[longest, 1023, 1024], longest, 300);
-    let modes = distinct_ids(random, mode_count).into_iter().map(|id| {
-        let len = random.edge(&[least, longest], least, longest);
-        Mode { id, start: random.edge(&[0, area - len], 0, area - len), len }
-    });
-    let modes = modes.collect();
+    let modes = distinct_ids(random, mode_count).into_iter().zip(lengths);
+    let modes = modes.map(|(id, len)| Mode { id, start: random.edge(&[0, area - len], 0, area - len), len }).collect();
     let [div_data, shill_key] = [random.block(), random.block()];
     Given { sets, modes, area: random.bytes(area), div_data, shill_key, shill_handle }
+}
+
+/// So many records' lengths. One of them, at any place, needs the chosen B, which is 2 to 6 alike: from 1 to 15 bytes, from 16 to 31, and so
+/// on; 64 alone. The others need the same B, or any up to it.
+fn lengths(random: &mut Random, count: usize) -> Vec<usize> {
+    let (least, longest) = random.pick(&[(1, 15), (16, 31), (32, 47), (48, 63), (64, 64)]);
+    let from = random.pick(&[least, 1, 1]);
+    let edges = [1, 4, 15, 16, 17, 31, 32, 47, 48, 63, longest].into_iter().filter(|edge| (from..=longest).contains(edge));
+    let edges: Vec<usize> = edges.collect();
+    let mut lengths: Vec<usize> = (0..count).map(|_| random.edge(&edges, from, longest)).collect();
+    lengths[random.edge(&[0, count - 1], 0, count - 1)] = random.edge(&[least, longest], least, longest);
+    lengths
 }
 
 /// So many key sets, none with the shill handle.

@@ -6,7 +6,7 @@ use crate::fault::Fault;
 use crate::line::Line;
 use crate::padding::padded;
 use crate::random::Random;
-use crate::reader::{Sealing, enciphered};
+use crate::reader::{Accepting, Sealing, enciphered};
 
 pub fn list(random: &mut Random) -> Line {
     let count = random.edge(&[1, 2, 16], 0, 20);
@@ -70,10 +70,28 @@ pub fn seal(random: &mut Random) -> Line {
     Line::Seal { of: sealing(random), payload, out: size(random, lc + 6) }
 }
 
-/// A body and DivData, padded; sometimes other bytes before they are enciphered.
-fn response_text(random: &mut Random, div_data: &Block) -> Vec<u8> {
-    let body = random.edge(&[0, 1, 15, 16, 63, 64, 65, 79], 0, 79);
+/// A record length for a body: mostly one that it has room for, else one about its end, none, or one that a narrower number would cut
+/// to the body's.
+pub fn record_length(random: &mut Random, body: usize) -> usize {
+    let cut = |bits: u32| body.wrapping_add(1 << bits);
+    match random.below(20) {
+        0..6 => body,
+        6..12 => random.between(1, body.max(1)),
+        12 => body.saturating_sub(1),
+        13 | 14 => body + 1,
+        15 => random.pick(&[body + 15, body + 16, body + 17, 64, 65]),
+        16 | 17 => 0,
+        18 => random.pick(&[cut(8), cut(16), cut(32), cut(63), usize::MAX, usize::MAX - 15, 1 << 32, 1 << 63]),
+        _ => random.edge(&[1, 4, 16, 63, 64, 65, 96], 0, 100),
+    }
+}
+
+/// A body and DivData, padded; sometimes other bytes before they are enciphered. Behind the record the body has zeros or any bytes.
+fn response_text(random: &mut Random, div_data: &Block, body: usize, record: usize) -> Vec<u8> {
     let mut text = [&random.bytes(body)[..], div_data].concat();
+    if random.percent(40) {
+        text[record.min(body)..body].fill(0);
+    }
     if random.percent(10) {
         random.flip(&mut text[body..]);
     }
@@ -90,7 +108,9 @@ fn response_text(random: &mut Random, div_data: &Block) -> Vec<u8> {
 
 pub fn accept(random: &mut Random) -> Line {
     let [keys_hash, div_data] = [random.block(), random.block()];
-    let mut response = enciphered(&keys_hash, &response_text(random, &div_data));
+    let body = if random.percent(50) { random.between(1, 64) } else { random.edge(&[0, 1, 15, 16, 63, 64, 65, 79], 0, 79) };
+    let record_length = record_length(random, body);
+    let mut response = enciphered(&keys_hash, &response_text(random, &div_data, body, record_length));
     match random.below(12) {
         0 => random.flip(&mut response),
         1 => response.truncate(random.between(0, response.len())),
@@ -98,5 +118,5 @@ pub fn accept(random: &mut Random) -> Line {
         _ => {}
     }
     let work = size(random, response.len());
-    Line::Accept { keys_hash, div_data, work: random.bytes(work), response }
+    Line::Accept { of: Accepting { keys_hash, div_data, record_length }, work: random.bytes(work), response }
 }

@@ -2,11 +2,11 @@
 //! block to the entry whose set made it, and other bytes to the others.
 
 use super::{Case, command, distinct_ids, follow, id, load, reader};
-use crate::card::{self, Card};
+use crate::card::{self, Card, Mode, filled};
 use crate::fault::Fault;
 use crate::line::Line;
 use crate::random::Random;
-use crate::reader::{Sealing, framed, id_list, keys_hash, open, seal};
+use crate::reader::{Accepting, Sealing, framed, id_list, keys_hash, open, seal};
 
 struct Play<'a> {
     random: &'a mut Random,
@@ -19,7 +19,7 @@ struct Play<'a> {
 pub fn any(random: &mut Random) -> Case {
     let given = load::good(random);
     let lines = vec![Line::Load(given.clone())];
-    let Ok(card) = card::load(&given) else { return Case { lines, promised: None, session: true } };
+    let Ok(card) = card::load(&given, Fault::None) else { return Case { lines, promised: None, session: true } };
     let mut play = Play { random, card, lines, promised: true };
     let record = play.run();
     Case { promised: record.filter(|_| play.promised), lines: play.lines, session: true }
@@ -109,8 +109,20 @@ impl Play<'_> {
             self.random.flip(&mut response);
         }
         let work = self.random.bytes(response.len());
-        let keys_hash = keys_hash(&of.rnd1, &of.rnd2);
-        self.lines.push(Line::Accept { keys_hash, div_data: of.div_data, response, work });
+        let record_length = self.record_length(mode);
+        let of = Accepting { keys_hash: keys_hash(&of.rnd1, &of.rnd2), div_data: of.div_data, record_length };
+        self.lines.push(Line::Accept { of, response, work });
         mode.map(|m| self.card.given.area[m.start..m.start + m.len].to_vec())
+    }
+
+    /// Mostly the mode's, as the promise needs it.
+    fn record_length(&mut self, mode: Option<Mode>) -> usize {
+        let right = mode.map_or(1, |m| m.len);
+        if self.random.percent(85) {
+            return right;
+        }
+        let given = reader::record_length(self.random, right.max(filled(self.card.reply_size)));
+        self.promised &= given == right;
+        given
     }
 }

@@ -3,13 +3,13 @@
 use crate::aes::Block;
 use crate::card::{self, Card, Given};
 use crate::fault::Fault;
-use crate::reader::{self, Sealing};
+use crate::reader::{self, Accepting, Sealing};
 
 pub struct Agreed(Card);
 
 impl Agreed {
     pub fn new(load: &Given) -> Agreed {
-        match card::load(load) {
+        match card::load(load, Fault::None) {
             Ok(card) => Agreed(card),
             Err(decline) => panic!("the load is declined: {}", decline.why),
         }
@@ -45,9 +45,9 @@ impl Agreed {
         assert!(sealed == (want.len(), *hash) && out[..want.len()] == *want, "Seal");
     }
 
-    pub fn accepts(hash: &Block, div_data: &Block, response: &[u8], record: &[u8]) {
+    pub fn accepts(of: &Accepting, response: &[u8], record: &[u8]) {
         let mut work = [0; 96];
-        let length = reader::accept(hash, div_data, response, &mut work).map_or(0, |length| length);
+        let length = reader::accept(of, response, &mut work, Fault::None).map_or(0, |(length, _)| length);
         assert!(length > 0 && work[..length] == *record, "Accept");
     }
 }

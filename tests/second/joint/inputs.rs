@@ -12,6 +12,9 @@ const SHILL_HANDLE: u8 = 0x99;
 /// The UUID that RFC 4122 has as its example, f81d4fae-7dec-11d0-a765-00a0c91e6bf6.
 const UUID: Block = [0xf8, 0x1d, 0x4f, 0xae, 0x7d, 0xec, 0x11, 0xd0, 0xa7, 0x65, 0x00, 0xa0, 0xc9, 0x1e, 0x6b, 0xf6];
 
+/// A Wiegand number of 26 bits in the low end of 4 bytes: even parity, facility 21, number 110, odd parity.
+const WIEGAND: [u8; 4] = [0x02, 0x2a, 0x00, 0xdc];
+
 pub struct Session {
     pub title: &'static str,
     pub list: Vec<u16>,
@@ -35,7 +38,7 @@ pub struct Stranger {
 pub struct Inputs {
     pub load: Given,
     pub keys: Vec<(String, Vec<u8>)>,
-    pub sessions: [Session; 2],
+    pub sessions: [Session; 3],
     pub stranger: Stranger,
 }
 
@@ -68,8 +71,12 @@ fn load() -> Given {
             KeySet { id: 1, handle: IA_HANDLE, fa_key: block(0xa0) },
             KeySet { id: 4, handle: IA_HANDLE, fa_key: block(0xb0) },
         ],
-        modes: vec![Mode { id: 1, start: 0, len: 16 }, Mode { id: 3, start: 16, len: role.len() }],
-        area: [&UUID[..], role].concat(),
+        modes: vec![
+            Mode { id: 2, start: 0, len: WIEGAND.len() },
+            Mode { id: 1, start: 4, len: UUID.len() },
+            Mode { id: 3, start: 20, len: role.len() },
+        ],
+        area: [&WIEGAND[..], &UUID, role].concat(),
         div_data: block(0x10),
         shill_key: block(0xc0),
         shill_handle: SHILL_HANDLE,
@@ -96,6 +103,15 @@ impl Inputs {
             payload: b"FEEDER 21A/110".to_vec(),
             rnd2: block(0x60),
         };
+        let wiegand = Session {
+            title: "A Wiegand number of 4 bytes: 12 zero bytes follow it.",
+            list: vec![4],
+            rnd1: block(0x20),
+            ps: up(0x1b, 203),
+            mode: 2,
+            payload: Vec::new(),
+            rnd2: block(0xe0),
+        };
         let stranger = Stranger {
             list: vec![0x30, 4, 0x04, 2, 0, 5],
             malformed: vec![0x31, 4, 0x04, 2, 0, 1],
@@ -104,7 +120,7 @@ impl Inputs {
             data: up(0x80, 48),
             random3: up(0xd0, 48),
         };
-        Inputs { load: load(), keys: keys(), sessions: [uuid, payload], stranger }
+        Inputs { load: load(), keys: keys(), sessions: [uuid, payload, wiegand], stranger }
     }
 
     /// A number of an RSA key.

@@ -7,7 +7,7 @@ use crate::fault::Fault;
 use crate::inputs::{Inputs, Session};
 use crate::padding::padded;
 use crate::page::Page;
-use crate::reader::{Sealing, enciphered, framed, id_list};
+use crate::reader::{Accepting, Sealing, enciphered, framed, id_list};
 use crate::rsa;
 use crate::sha256;
 
@@ -26,6 +26,12 @@ fn chosen<'a>(inputs: &'a Inputs, list: &[u16]) -> &'a KeySet {
 fn record<'a>(inputs: &'a Inputs, id: u16) -> &'a [u8] {
     let mode = inputs.load.modes.iter().find(|mode| mode.id == id).unwrap();
     &inputs.load.area[mode.start..][..mode.len]
+}
+
+/// B: the blocks of the longest record with DivData and padding.
+fn reply_size(inputs: &Inputs) -> usize {
+    let needed = |id| padded(&[record(inputs, id), &inputs.load.div_data].concat(), Fault::None).len() / 16;
+    inputs.load.modes.iter().map(|mode| needed(mode.id)).max().unwrap()
 }
 
 /// Steps 1 to 4.
@@ -85,23 +91,32 @@ fn final_command(page: &mut Page, inputs: &Inputs, of: &Session) -> (Block, Vec<
     (hash, command)
 }
 
+/// Steps 6 and 7. Gives eSTR3.
+fn final_answer(page: &mut Page, inputs: &Inputs, of: &Session, hash: &Block) -> Vec<u8> {
+    page.note("Steps 6 and 7 (6.6, 6.7): the card finds the same KeysHash and answers.");
+    let record = record(inputs, of.mode);
+    page.value("ACSRecord", "that of OpModeID", record);
+    let zeros = vec![0; (16 * (reply_size(inputs) - 2)).saturating_sub(record.len())];
+    page.value("Payload of STR3", "00*, up to 16(B - 2) bytes with ACSRecord", &zeros);
+    let str3 = [record, &zeros, &inputs.load.div_data].concat();
+    page.value("STR3", "ACSRecord || Payload of STR3 || DivData", &str3);
+    let text = padded(&str3, Fault::None);
+    page.value("STR3 padded", "STR3 || 80 || 00*", &text);
+    let answer = enciphered(hash, &text);
+    page.value("eSTR3", "AESEncrypt, key KeysHash, CBC, of STR3 padded", &answer);
+    page.value("FA response", "eSTR3 || 90 00", &[&answer[..], &OK].concat());
+    answer
+}
+
 pub fn write(page: &mut Page, inputs: &Inputs, of: &Session, agreed: &mut Agreed) {
     let place = inputs.sessions.iter().position(|one| one.title == of.title).unwrap();
     page.section(&format!("session {}", place + 1), of.title);
     initial(page, inputs, of, agreed);
     let (hash, command) = final_command(page, inputs, of);
-
-    page.note("Steps 6 and 7 (6.6, 6.7): the card finds the same KeysHash and answers.");
-    let record = record(inputs, of.mode);
-    page.value("ACSRecord", "that of OpModeID", record);
-    let str3 = [record, &inputs.load.div_data].concat();
-    page.value("STR3", "ACSRecord || DivData", &str3);
-    let text = padded(&str3, Fault::None);
-    page.value("STR3 padded", "STR3 || 80 || 00*", &text);
-    let answer = enciphered(&hash, &text);
-    page.value("eSTR3", "AESEncrypt, key KeysHash, CBC, of STR3 padded", &answer);
-    page.value("FA response", "eSTR3 || 90 00", &[&answer[..], &OK].concat());
+    let answer = final_answer(page, inputs, of, &hash);
     agreed.answers(&command, &[], &of.ps, &answer, 0);
-    page.note("Step 8 (6.8): the reader deciphers STR3 padded and finds its DivData there.");
-    Agreed::accepts(&hash, &inputs.load.div_data, &answer, record);
+    page.note("Step 8 (6.8): the reader deciphers STR3 padded, finds its DivData there,\n# and takes ACSRecord, the first bytes.");
+    let record = record(inputs, of.mode);
+    let accepting = Accepting { keys_hash: hash, div_data: inputs.load.div_data, record_length: record.len() };
+    Agreed::accepts(&accepting, &answer, record);
 }

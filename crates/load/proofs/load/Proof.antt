@@ -2,7 +2,7 @@
 use mathlib.Core.Path.{sym, _∙_}
 use lib.ListN.{length}
 use Rattle.load.specs.Load.{loadedCard}
-use Rattle.load.specs.Laws.{accepted, load-made, load-refused, first-size}
+use Rattle.load.specs.Laws.{accepted, load-made, load-refused}
 use borrow.Author.Needs.{needs}
 use Rattle.load.proofs.load.Statement.{statement}
 use Rattle.load.proofs.load.Tie as tie
@@ -18,34 +18,35 @@ returns c =
     let a = c .before .before .before .before .args in
     let f = c .before .before .fault in
     simp (c .blank .ensures, f .ensures)
-    (sym (load-refused (a .sets) (a .set-count) (a .t3) (a .mode-count) (a .area .now) (a .div-data) (a .shill-key) (a .shill-handle) (λ z. c .before .if1 .taken (f .ensures ∙ z))))
+    (sym (load-refused (a .sets) (a .set-count) (a .modes) (a .mode-count) (a .area .now) (a .div-data) (a .shill-key) (a .shill-handle) (λ z. c .before .if1 .taken (f .ensures ∙ z))))
 
 set-slots-requires : tie.Need-set-slots-requires
 set-slots-requires c κs =
     let a = c .before .before .before .args in
     let z = sym (c .before .fault .ensures) ∙ c .if1 .left in
-    let k = accepted (a .sets) (a .set-count) (a .t3) (a .mode-count) (length (a .area .now)) (a .shill-handle) z in
+    let k = accepted (a .sets) (a .set-count) (a .modes) (a .mode-count) (length (a .area .now)) (a .shill-handle) z in
     k .sets-most
 
 mode-slots-requires : tie.Need-mode-slots-requires
 mode-slots-requires c κs =
     let a = c .before .before .before .before .args in
     let z = sym (c .before .before .fault .ensures) ∙ c .before .if1 .left in
-    let k = accepted (a .sets) (a .set-count) (a .t3) (a .mode-count) (length (a .area .now)) (a .shill-handle) z in
+    let k = accepted (a .sets) (a .set-count) (a .modes) (a .mode-count) (length (a .area .now)) (a .shill-handle) z in
     k .modes-most
 
 copied-requires : tie.Need-copied-requires
 copied-requires c κs =
     let a = c .before .before .before .before .before .args in
     let z = sym (c .before .before .before .fault .ensures) ∙ c .before .before .if1 .left in
-    let k = accepted (a .sets) (a .set-count) (a .t3) (a .mode-count) (length (a .area .now)) (a .shill-handle) z in
+    let k = accepted (a .sets) (a .set-count) (a .modes) (a .mode-count) (length (a .area .now)) (a .shill-handle) z in
     k .area-most
 
-array-copy-out-reply-size : tie.Need-array-copy-out-reply-size
-array-copy-out-reply-size c = search needs
-
-reply-size-requires : tie.Need-reply-size-requires
-reply-size-requires c κs = search needs
+largest-size-requires : tie.Need-largest-size-requires
+largest-size-requires c κs =
+    let a = c .before .before .before .before .before .before .args in
+    let z = sym (c .before .before .before .before .fault .ensures) ∙ c .before .before .before .if1 .left in
+    let k = accepted (a .sets) (a .set-count) (a .modes) (a .mode-count) (length (a .area .now)) (a .shill-handle) z in
+    k .modes-most
 
 none-requires : tie.Need-none-requires
 none-requires c κs = search needs
@@ -53,17 +54,15 @@ none-requires c κs = search needs
 returns-2 : tie.Need-returns-2
 unfolding loadedCard
 returns-2 c =
-    let a = c .before .before .before .before .before .before .before .before .before .args in
-    let z = sym (c .before .before .before .before .before .before .before .fault .ensures) ∙ c .before .before .before .before .before .before .if1 .left in
-    let k = accepted (a .sets) (a .set-count) (a .t3) (a .mode-count) (length (a .area .now)) (a .shill-handle) z in
-    let size = c .before .reply-size .ensures ∙ sym (first-size (a .t3) (a .mode-count) (k .modes-some) (search needs)) in
+    let a = c .before .before .before .before .before .before .before .before .args in
+    let z = sym (c .before .before .before .before .before .before .fault .ensures) ∙ c .before .before .before .before .before .if1 .left in
     simp (
       c .none .ensures,
-      size,
-      c .before .before .before .copied .ensures,
-      c .before .before .before .before .mode-slots .ensures,
-      c .before .before .before .before .before .set-slots .ensures,
-    ) (sym (load-made (a .sets) (a .set-count) (a .t3) (a .mode-count) (a .area .now) (a .div-data) (a .shill-key) (a .shill-handle) z))
+      c .before .largest-size .ensures,
+      c .before .before .copied .ensures,
+      c .before .before .before .mode-slots .ensures,
+      c .before .before .before .before .set-slots .ensures,
+    ) (sym (load-made (a .sets) (a .set-count) (a .modes) (a .mode-count) (a .area .now) (a .div-data) (a .shill-key) (a .shill-handle) z))
 
 pub load-spec : {M : Type 1} → statement M
 load-spec =
@@ -75,7 +74,6 @@ load-spec =
     set-slots-requires
     mode-slots-requires
     copied-requires
-    array-copy-out-reply-size
-    reply-size-requires
+    largest-size-requires
     none-requires
     returns-2)

@@ -71,43 +71,21 @@ returns-5 c =
       sym (c .before .bad-records .ensures) ∙ c .if5 .taken,
     )
 
-sizes-differ-requires : tie.Need-sizes-differ-requires
-sizes-differ-requires c κs = search needs
-
 returns-6 : tie.Need-returns-6
 unfolding modesRefusal
 returns-6 c =
-    let a = c .before .before .before .before .before .before .before .before .before .before .before .args in
+    let a = c .before .before .before .before .before .before .before .before .before .args in
     let k =
-    given-once (λ (x : Mode). x .id .0) (a .modes) (a .n) _ _ _ (c .before .before .before .before .before .before .repeats .ensures)
-    (c .before .before .before .before .before .before .before .before .mode-ids .ensures)
-    (c .before .before .before .before .before .if3 .left)
+    given-once (λ (x : Mode). x .id .0) (a .modes) (a .n) _ _ _ (c .before .before .before .before .repeats .ensures)
+    (c .before .before .before .before .before .before .mode-ids .ensures)
+    (c .before .before .before .if3 .left)
     in
     simp (
-      ne-eqb _ _ (c .before .before .before .before .before .before .before .before .before .before .if1 .left),
-      le-ltb _ _ (c .before .before .before .before .before .before .before .before .before .if2 .left),
+      ne-eqb _ _ (c .before .before .before .before .before .before .before .before .if1 .left),
+      le-ltb _ _ (c .before .before .before .before .before .before .before .if2 .left),
       k,
-      le-ltb _ _ (c .before .before .before .before .if4 .left),
-      sym (c .before .before .before .bad-records .ensures) ∙ c .before .before .if5 .left,
-      sym (c .before .sizes-differ .ensures) ∙ c .if6 .taken,
-    )
-
-returns-7 : tie.Need-returns-7
-unfolding modesRefusal
-returns-7 c =
-    let a = c .before .before .before .before .before .before .before .before .before .before .before .args in
-    let k =
-    given-once (λ (x : Mode). x .id .0) (a .modes) (a .n) _ _ _ (c .before .before .before .before .before .before .repeats .ensures)
-    (c .before .before .before .before .before .before .before .before .mode-ids .ensures)
-    (c .before .before .before .before .before .if3 .left)
-    in
-    simp (
-      ne-eqb _ _ (c .before .before .before .before .before .before .before .before .before .before .if1 .left),
-      le-ltb _ _ (c .before .before .before .before .before .before .before .before .before .if2 .left),
-      k,
-      le-ltb _ _ (c .before .before .before .before .if4 .left),
-      sym (c .before .before .before .bad-records .ensures) ∙ c .before .before .if5 .left,
-      sym (c .before .sizes-differ .ensures) ∙ c .if6 .left,
+      le-ltb _ _ (c .before .before .if4 .left),
+      sym (c .before .bad-records .ensures) ∙ c .if5 .left,
     )
 
 pub modes-fault-spec : {M : Type 1} → statement M
@@ -123,6 +101,4 @@ modes-fault-spec =
     returns-4
     bad-records-requires
     returns-5
-    sizes-differ-requires
-    returns-6
-    returns-7)
+    returns-6)

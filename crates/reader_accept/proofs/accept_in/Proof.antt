@@ -18,6 +18,7 @@ returns c =
     length-unknown
     (a .keys-hash)
     (a .div-data)
+    (a .record-length)
     (a .response .now)
     (a .work .now)
     (sym (c .before .known-length .ensures) ∙ not-true _ (c .if1 .taken))
@@ -28,6 +29,7 @@ returns-2 c =
     work-short
     (a .keys-hash)
     (a .div-data)
+    (a .record-length)
     (a .response .now)
     (a .work .now)
     (sym (c .before .before .known-length .ensures) ∙ not-false _ (c .before .if1 .left))
@@ -45,9 +47,12 @@ slice-aggregate-judged c = sym (length-take-le _ _ (search needs))
 judged-requires : tie.Need-judged-requires
 judged-requires c κs = search needs
 
+has-record-requires : tie.Need-has-record-requires
+has-record-requires c κs = search needs
+
 clear-requires : tie.Need-clear-requires
 clear-requires c κs =
-    let k = known _ (sym (c .before .before .before .before .before .before .before .before .before .before .known-length .ensures) ∙ not-false _ (c .before .before .before .before .before .before .before .before .before .if1 .left)) in
+    let k = known _ (sym (c .before .before .before .before .before .before .before .before .before .before .before .known-length .ensures) ∙ not-false _ (c .before .before .before .before .before .before .before .before .before .before .if1 .left)) in
     (omega arith, omega arith)
 
 same-length : tie.Need-same-length
@@ -55,17 +60,19 @@ same-length c = search needs
 
 returns-3 : tie.Need-returns-3
 returns-3 c =
-    let a = c .before .before .before .before .before .before .before .before .before .before .before .before .before .before .before .before .args in
+    let a = c .before .before .before .before .before .before .before .before .before .before .before .before .before .before .before .before .before .args in
     text-refused
     (a .keys-hash)
     (a .div-data)
+    (a .record-length)
     (a .response .now)
     (a .work .now)
-    (sym (c .before .before .before .before .before .before .before .before .before .before .before .before .before .known-length .ensures) ∙ not-false _ (c .before .before .before .before .before .before .before .before .before .before .before .before .if1 .left))
-    (c .before .before .before .before .before .before .before .before .before .before .before .if2 .left)
-    (c .before .before .before .before .before .before .before .before .before .decipher-into .ensures)
-    (c .before .before .before .before .before .judged .ensures)
-    (c .before .before .before .before .if3 .taken)
+    (sym (c .before .before .before .before .before .before .before .before .before .before .before .before .before .before .known-length .ensures) ∙ not-false _ (c .before .before .before .before .before .before .before .before .before .before .before .before .before .if1 .left))
+    (c .before .before .before .before .before .before .before .before .before .before .before .before .if2 .left)
+    (c .before .before .before .before .before .before .before .before .before .before .decipher-into .ensures)
+    (c .before .before .before .before .before .before .judged .ensures)
+    (c .before .before .before .before .before .has-record .ensures)
+    (not-true _ (c .before .before .before .before .if3 .taken))
     (c .before .before .clear .ensures)
 
 same-length-2 : tie.Need-same-length-2
@@ -73,17 +80,19 @@ same-length-2 c = search needs
 
 returns-4 : tie.Need-returns-4
 returns-4 c =
-    let a = c .before .before .before .before .before .before .before .before .before .before .before .before .args in
+    let a = c .before .before .before .before .before .before .before .before .before .before .before .before .before .args in
     text-accepted
     (a .keys-hash)
     (a .div-data)
+    (a .record-length)
     (a .response .now)
     (a .work .now)
-    (sym (c .before .before .before .before .before .before .before .before .before .known-length .ensures) ∙ not-false _ (c .before .before .before .before .before .before .before .before .if1 .left))
-    (c .before .before .before .before .before .before .before .if2 .left)
-    (c .before .before .before .before .before .decipher-into .ensures)
-    (c .before .judged .ensures)
-    (c .if3 .left)
+    (sym (c .before .before .before .before .before .before .before .before .before .before .known-length .ensures) ∙ not-false _ (c .before .before .before .before .before .before .before .before .before .if1 .left))
+    (c .before .before .before .before .before .before .before .before .if2 .left)
+    (c .before .before .before .before .before .before .decipher-into .ensures)
+    (c .before .before .judged .ensures)
+    (c .before .has-record .ensures)
+    (not-false _ (c .if3 .left))
 
 pub accept-in-spec : {M : Type 1} → statement M
 accept-in-spec =
@@ -96,6 +105,7 @@ accept-in-spec =
     slice-reshare-prefix-judged
     slice-aggregate-judged
     judged-requires
+    has-record-requires
     clear-requires
     same-length
     returns-3

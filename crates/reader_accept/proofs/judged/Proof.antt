@@ -13,14 +13,14 @@ unpad-requires c κs = search needs
 enum-known-t : tie.Need-enum-known-t
 enum-known-t c = search needs
 
-record-length-requires : tie.Need-record-length-requires
-record-length-requires c κs = omega (arith, unpadded-lt _ _ (sym (c .before .before .before .unpad .ensures) ∙ c .before .t .given .1))
+body-length-requires : tie.Need-body-length-requires
+body-length-requires c κs = omega (arith, unpadded-lt _ _ (sym (c .before .before .before .unpad .ensures) ∙ c .before .t .given .1))
 
 enum-told : tie.Need-enum-told
 enum-told c = search needs
 
 returns : tie.Need-returns
-returns c = c .record-length .ensures ∙ judged-text _ _ _ (sym (c .before .before .t .given .1) ∙ c .before .before .before .before .unpad .ensures)
+returns c = c .body-length .ensures ∙ judged-text _ _ _ (sym (c .before .before .t .given .1) ∙ c .before .before .before .before .unpad .ensures)
 
 returns-2 : tie.Need-returns-2
 returns-2 c = judged-malformed _ _ (sym (c .enum-told .given .1) ∙ c .before .before .unpad .ensures)
@@ -28,4 +28,4 @@ returns-2 c = judged-malformed _ _ (sym (c .enum-told .given .1) ∙ c .before .
 pub judged-spec : {M : Type 1} → statement M
 judged-spec =
     tie.close
-    (tie.spec unpad-requires enum-known-t record-length-requires enum-told returns returns-2)
+    (tie.spec unpad-requires enum-known-t body-length-requires enum-told returns returns-2)

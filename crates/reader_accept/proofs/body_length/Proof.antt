@@ -1,12 +1,12 @@
--- `reader_accept::record_length` meets its contract: each answer rewrites with the tests that led there. Assumes nothing.
+-- `reader_accept::body_length` meets its contract: each answer rewrites with the tests that led there. Assumes nothing.
 use borrow.Author.Needs.{needs}
 use mathlib.Core.Path.{_∙_}
 use native.Mathlib.Omega.{arith}
 use borrow.Author.Tests.{le-leb, lt-leb}
 use Rattle.reader_accept.specs.Accept.{rightBody}
 use Rattle.reader_accept.proofs.Tests.{body-is}
-use Rattle.reader_accept.proofs.record_length.Statement.{statement}
-use Rattle.reader_accept.proofs.record_length.Tie as tie
+use Rattle.reader_accept.proofs.body_length.Statement.{statement}
+use Rattle.reader_accept.proofs.body_length.Tie as tie
 
 returns : tie.Need-returns
 unfolding rightBody
@@ -38,8 +38,8 @@ returns-4 c =
     let a = c .before .before .before .before .before .before .args in
     simp (body-is (a .s .now) (a .t) (a .div) (omega arith) (omega arith) (c .before .before .block-at .ensures) (c .before .equal .ensures) ∙ c .if3 .left)
 
-pub record-length-spec : {M : Type 1} → statement M
-record-length-spec =
+pub body-length-spec : {M : Type 1} → statement M
+body-length-spec =
     tie.close
     (tie.spec
     returns
