@@ -54,30 +54,38 @@ idOf k = record { 0 = k }
 sound-in : (l : Load) (s : Session) → length (s .rnd1) ≡ 16 → Sound (withSession (cardOf l) s)
 sound-in l s r = let k = sound l in record { sets = k .sets; modes = k .modes; div = k .div; rnd1 = r; size = k .size }
 
--- loads with the properties of the edges
-load-4 : (l : Load) × (lengths l ≡ 4 ∷ [])
-unfolding set mode given area load-of loadOf loaded refusal modesRefusal
-load-4 = (load-of (set 1 ∷ []) (mode 7 0 4 ∷ []) 0 4 (omega arith) (one-key 1 (omega arith)) refl, refl)
+-- loads with the properties of the edges: set 1, with one record or with two
+one-record : (n : ℕ) → loadOf (set 1 ∷ []) (given (mode 7 0 n ∷ [])) (area 0 n) .number ≡ 0 → (l : Load) × ((lengths l ≡ n ∷ []) × Gave l 0 1)
+unfolding set mode given load-of
+one-record n e = (load-of (set 1 ∷ []) (mode 7 0 n ∷ []) 0 n (omega arith) (one-key 1 (omega arith)) e, (refl, record { within = omega arith; id = refl }))
 
-load-15 : (l : Load) × (lengths l ≡ 15 ∷ [])
-unfolding set mode given area load-of loadOf loaded refusal modesRefusal
-load-15 = (load-of (set 1 ∷ []) (mode 7 0 15 ∷ []) 0 15 (omega arith) (one-key 1 (omega arith)) refl, refl)
+two-records : (m n : ℕ) → loadOf (set 1 ∷ []) (given (mode 7 0 m ∷ mode 8 m n ∷ [])) (area m n) .number ≡ 0 → (l : Load) × (lengths l ≡ m ∷ n ∷ [])
+unfolding mode given load-of
+two-records m n e = (load-of (set 1 ∷ []) (mode 7 0 m ∷ mode 8 m n ∷ []) m n (omega arith) (one-key 1 (omega arith)) e, refl)
+
+load-4 : (l : Load) × ((lengths l ≡ 4 ∷ []) × Gave l 0 1)
+unfolding set mode given area loadOf loaded refusal modesRefusal
+load-4 = one-record 4 refl
+
+load-15 : (l : Load) × ((lengths l ≡ 15 ∷ []) × Gave l 0 1)
+unfolding set mode given area loadOf loaded refusal modesRefusal
+load-15 = one-record 15 refl
 
 load-16 : (l : Load) × ((lengths l ≡ 16 ∷ []) × Gave l 0 1)
-unfolding set mode given area load-of loadOf loaded refusal modesRefusal
-load-16 = (load-of (set 1 ∷ []) (mode 7 0 16 ∷ []) 0 16 (omega arith) (one-key 1 (omega arith)) refl, (refl, record { within = omega arith; id = refl }))
+unfolding set mode given area loadOf loaded refusal modesRefusal
+load-16 = one-record 16 refl
 
-load-64 : (l : Load) × (lengths l ≡ 64 ∷ [])
-unfolding set mode given area load-of loadOf loaded refusal modesRefusal
-load-64 = (load-of (set 1 ∷ []) (mode 7 0 64 ∷ []) 0 64 (omega arith) (one-key 1 (omega arith)) refl, refl)
+load-64 : (l : Load) × ((lengths l ≡ 64 ∷ []) × Gave l 0 1)
+unfolding set mode given area loadOf loaded refusal modesRefusal
+load-64 = one-record 64 refl
 
 load-4-16 : (l : Load) × (lengths l ≡ 4 ∷ 16 ∷ [])
-unfolding set mode given area load-of loadOf loaded refusal modesRefusal
-load-4-16 = (load-of (set 1 ∷ []) (mode 7 0 4 ∷ mode 8 4 16 ∷ []) 4 16 (omega arith) (one-key 1 (omega arith)) refl, refl)
+unfolding set mode given area loadOf loaded refusal modesRefusal
+load-4-16 = two-records 4 16 refl
 
 load-15-64 : (l : Load) × (lengths l ≡ 15 ∷ 64 ∷ [])
-unfolding set mode given area load-of loadOf loaded refusal modesRefusal
-load-15-64 = (load-of (set 1 ∷ []) (mode 7 0 15 ∷ mode 8 15 64 ∷ []) 15 64 (omega arith) (one-key 1 (omega arith)) refl, refl)
+unfolding set mode given area loadOf loaded refusal modesRefusal
+load-15-64 = two-records 15 64 refl
 
 load-two : (l : Load) × (Gave l 0 2 × Gave l 1 5)
 unfolding set mode given area load-of loadOf loaded refusal modesRefusal
@@ -374,7 +382,7 @@ long-edge = (
 )
 
 alone-edge : Of (λ l. lengths l ≡ 4 ∷ []) (λ l. Replies l 0 2 4 (recordGiven l 0))
-alone-edge = (load-4, λ l e. let k = longest-one l 4 e in without l 0 4 2 (records-at l 0 4 (omega (arith, ap length e)) (ap (λ (s : List ℕ). getD s 0 0) e)) (size-is l 4 k) refl)
+alone-edge = ((load-4 .0, load-4 .1 .0), λ l e. let k = longest-one l 4 e in without l 0 4 2 (records-at l 0 4 (omega (arith, ap length e)) (ap (λ (s : List ℕ). getD s 0 0) e)) (size-is l 4 k) refl)
 
 -- "payload p: Lc lc"
 seal-edge : (p : ℕ) → p ≤ 205 → Seals p (lcFor p)
@@ -472,9 +480,9 @@ all-edges =
     left-over-edge and
     one-byte-edge and
     one-81-edge and
-    size-edge 15 (load-15 .0) (load-15 .1) and
+    size-edge 15 (load-15 .0) (load-15 .1 .0) and
     size-edge 16 (load-16 .0) (load-16 .1 .0) and
-    size-edge 64 (load-64 .0) (load-64 .1) and
+    size-edge 64 (load-64 .0) (load-64 .1 .0) and
     seal-edge 13 (omega arith) and
     seal-edge 14 (omega arith) and
     seal-edge 205 (omega arith) and
