@@ -1,19 +1,18 @@
 -- The record of a mode as a part that lies within the area, and the reply text in its buffer. Assumes nothing.
 use mathlib.Core.Path.{_≡_, refl, sym, ap, _∙_}
 use mathlib.Core.Bool.{Bool, true, false, cond}
-use mathlib.Core.List.{List, _++_, append-assoc}
+use mathlib.Core.List.{List, _++_}
 use Prim.Native.Nat.{ℕ, _+_, _-_, _*_, _≤_}
 use native.Mathlib.Omega.{arith}
 use lib.Dec.{ltb}
-use lib.ListN.{length, take, drop, replicate, length-append, length-take, length-drop, length-replicate, replicate-append-replicate, drop-of-length-le}
+use lib.ListN.{length, take, drop, replicate, length-append, length-take, length-drop, length-replicate, drop-of-length-le}
 use lib.Seq.{take-all}
 use borrow.Author.Tests.{ltb-true, ltb-false}
 use Rattle.octets.specs.Lists.{part, over}
-use Rattle.octets.specs.Writes.{drop-replicate, over-front}
 use Rattle.padding.specs.Method2.{padded, padBuffer}
 use Rattle.plaid_types.specs.declared.ModeSlot.{ModeSlot}
 use Rattle.final_command.specs.Final.{least, recordOf, bodyOf, replyText}
-use Rattle.final_command.proofs.Buffers.{over-padded}
+use Rattle.final_command.proofs.Buffers.{over-behind, over-padded}
 
 -- taking at most what is there, from at most the end on
 take-least : {A : Type 0} (n : ℕ) (l : List A) (b : Bool) → ltb n (length l) ≡ b → take (cond b n (length l)) l ≡ take n l
@@ -58,35 +57,20 @@ record-long ok area fresh s m n y q =
     let r : s ≡ recordOf area m = q ∙ ap (λ (t : Bool). cond t (recordOf area m) (part fresh 0 n)) y in
     omega (arith, ap length r, record-most area m)
 
--- zeros written over zeros change nothing
-over-zeros : (n k : ℕ) (s : List ℕ) → length s + k ≤ n → over (replicate n 0) 0 s ≡ over (replicate n 0) 0 (s ++ replicate k 0)
-over-zeros n k s h =
-    let l : length (s ++ replicate k 0) ≡ length s + k = length-append s (replicate k 0) ∙ ap (λ (m : ℕ). length s + m) (length-replicate k 0) in
-    let e : n - length s ≡ k + (n - length (s ++ replicate k 0)) = omega arith in
-    over-front (replicate n 0) s
-    ∙ ap (λ (x : List ℕ). s ++ x)
-    (drop-replicate 0 (length s) n
-    ∙ ap (λ (m : ℕ). replicate m 0) e
-    ∙ sym (replicate-append-replicate k (n - length (s ++ replicate k 0)) 0)
-    ∙ ap (λ (x : List ℕ). replicate k 0 ++ x) (sym (drop-replicate 0 (length (s ++ replicate k 0)) n)))
-    ∙ sym (append-assoc s (replicate k 0) (drop (length (s ++ replicate k 0)) (replicate n 0)))
-    ∙ sym (over-front (replicate n 0) (s ++ replicate k 0))
-
--- a reply text in its buffer of zeros: with the record, its payload, DivData behind it and padding
-pub text-accepted : (ok : Bool) (area fresh div s b₁ b₂ b₃ : List ℕ) (m : ModeSlot) (size t : ℕ) → ok ≡ true → s ≡ cond ok (recordOf area m) (part fresh 0 (16 * size)) → size ≤ 6 →
-    b₁ ≡ over (replicate 96 0) 0 s → t ≡ length s + (16 * (size - 2) - length s) → b₂ ≡ over b₁ t div → b₃ ≡ padBuffer b₂ (t + 16) → length div ≡ 16 →
-    b₃ ≡ over (replicate 96 0) 0 (replyText ok area m div fresh size)
+-- a reply text in its buffer z: with the record, its payload f and DivData, each behind the other, and padding
+pub text-accepted : (ok : Bool) (area fresh div z s f b₁ b₂ b₃ b₄ : List ℕ) (m : ModeSlot) (size k : ℕ) → ok ≡ true → s ≡ cond ok (recordOf area m) (part fresh 0 (16 * size)) → size ≤ 6 →
+    k ≡ 16 * (size - 2) - length s → f ≡ replicate k 0 → b₁ ≡ over z 0 s → b₂ ≡ over b₁ (length s) f → b₃ ≡ over b₂ (length s + k) div → b₄ ≡ padBuffer b₃ (length s + k + 16) →
+    length z ≡ 96 → length div ≡ 16 → b₄ ≡ over z 0 (replyText ok area m div fresh size)
 unfolding replyText bodyOf
-text-accepted ok area fresh div s b₁ b₂ b₃ m size t y qs h q₁ qt q₂ q₃ ld =
-    let z : List ℕ = replicate 96 0 in
-    let k : ℕ = 16 * (size - 2) - length s in
-    let body : List ℕ = s ++ replicate k 0 in
+text-accepted ok area fresh div z s f b₁ b₂ b₃ b₄ m size k y qs h qk qf q₁ q₂ q₃ q₄ lz ld =
     let r : s ≡ recordOf area m = qs ∙ ap (λ (t : Bool). cond t (recordOf area m) (part fresh 0 (16 * size))) y in
     let l : length s ≤ 64 = record-long ok area fresh s m (16 * size) y qs in
-    let lb : length body ≡ t = length-append s (replicate k 0) ∙ ap (λ (m : ℕ). length s + m) (length-replicate k 0) ∙ sym qt in
-    q₃
-    ∙ ap (λ (b : List ℕ). padBuffer b (t + 16)) (q₂ ∙ ap (λ (b : List ℕ). over b t div) (q₁ ∙ over-zeros 96 k s (omega arith)))
-    ∙ over-padded z body div t (t + 16) lb ld refl (omega (arith, length-replicate {A = ℕ} 96 0))
+    let lb : length (s ++ f) ≡ length s + k = length-append s f ∙ ap (λ (n : ℕ). length s + n) (ap length qf ∙ length-replicate k 0) in
+    let q : b₂ ≡ over z 0 (s ++ f) = q₂ ∙ ap (λ (b : List ℕ). over b (length s) f) q₁ ∙ over-behind z s f (length s) refl in
+    q₄
+    ∙ ap (λ (b : List ℕ). padBuffer b (length s + k + 16)) (q₃ ∙ ap (λ (b : List ℕ). over b (length s + k) div) q)
+    ∙ over-padded z (s ++ f) div (length s + k) (length s + k + 16) lb ld refl (omega arith)
+    ∙ ap (λ (x : List ℕ). over z 0 (padded ((s ++ x) ++ div))) (qf ∙ ap (λ (n : ℕ). replicate n 0) qk)
     ∙ ap (λ (x : List ℕ). over z 0 (padded ((x ++ replicate (16 * (size - 2) - length x) 0) ++ div))) r
     ∙ ap (λ (t : Bool). over z 0 (cond t (padded ((recordOf area m ++ replicate (16 * (size - 2) - length (recordOf area m)) 0) ++ div)) (part fresh 0 (16 * size)))) (sym y)
 

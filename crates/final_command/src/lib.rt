@@ -274,29 +274,18 @@ fn source<'a>(accepted: bool, area: &'a [u8], mode: ModeSlot, fresh: &'a [u8], n
     &fresh[0..n]
 }
 
-// 96 zero bytes, and s over the first of them.
-fn buffer(s: &[u8]) -> [u8; Answer::FINAL_MOST]
-    requires { ⌜ length (now s) ≤ 96 ⌝ }
-    ensures { λ r. ⌜ r ≡ over (replicate 96 0) 0 (now (s .entry)) ⌝ }
-{
-    let mut b = [0u8; Answer::FINAL_MOST];
-    octets::copy_at(&mut b, 0, s);
-    b
-}
-
-// How long a record of n bytes is with its payload.
-fn body_length(n: usize, size: usize) -> usize
+// How many zero bytes follow a record of n bytes.
+fn payload_length(n: usize, size: usize) -> usize
     requires { ⌜ (n ≤ 64) × (size ≤ 6) ⌝ }
-    ensures { λ r. ⌜ r ≡ n + (16 * (size - 2) - n) ⌝ }
+    ensures { λ r. ⌜ r ≡ 16 * (size - 2) - n ⌝ }
 {
     if 32 + n < 16 * size {
-        16 * size - 32
+        16 * size - 32 - n
     } else {
-        n
+        0
     }
 }
 
-// The payload of zero bytes is what the buffer has behind the record.
 fn reply_text(
     accepted: bool,
     area: [u8; Card::AREA],
@@ -308,10 +297,15 @@ fn reply_text(
     requires { ⌜ (size ≤ 6) × (length (now fresh) ≡ 253) ⌝ }
     ensures { λ r. ⌜ r ≡ bufferOf (replyText accepted area mode div (now (fresh .entry)) size) ⌝ }
 {
+    let mut b = [0u8; Answer::FINAL_MOST];
     let s = source(accepted, &area, mode, fresh, 16 * size);
-    let mut b = buffer(s);
+    octets::copy_at(&mut b, 0, s);
     if accepted {
-        let t = body_length(s.len(), size);
+        let zeros = [0u8; Card::RECORD];
+        let k = payload_length(s.len(), size);
+        let payload = &zeros[..k];
+        let t = s.len() + k;
+        octets::copy_at(&mut b, s.len(), payload);
         octets::copy_at(&mut b, t, &div);
         padding::pad(&mut b, t + 16);
         return b;

@@ -1,5 +1,5 @@
 -- The turns and the ends of the loops: one looks for an element, one for a number that stands again, one for the largest reply size, one copies into slots. Assumes nothing.
-use Prim.Native.Nat.{ℕ, _+_, _-_, _<_, _≤_}
+use Prim.Native.Nat.{ℕ, zero, suc, _+_, _-_, _<_, _≤_}
 use mathlib.Core.Path.{_≡_, sym, ap, ap₂, _∙_}
 use mathlib.Core.Bool.{Bool, _||_, or-false, or-assoc}
 use mathlib.Core.List.{List, [], _∷_, _++_, map, append-nil}
@@ -9,7 +9,6 @@ use native.Mathlib.Omega.{arith}
 use lib.Dec.{eqb}
 use lib.ListN.{length, getD, take, drop, set, replicate, length-take, drop-of-length-le}
 use lib.Seq.{length-take-le, drop-cons, getD-take, take-all, paste, paste-suc}
-use Rattle.octets.specs.Writes.{drop-replicate}
 use Rattle.plaid_types.specs.declared.Mode.{Mode}
 use Rattle.load.specs.Load.{pastMode, some, repeated, replySize, larger, largestSize, filled}
 use Rattle.load.specs.Laws.{map-take}
@@ -74,6 +73,11 @@ copy-all {A = A} t₀ s i h k =
     ap₂ (λ (x y : List A). x ++ y) (take-all i s k) (drop-of-length-le t₀ {i = 0 + i} (omega arith)) ∙ append-nil s
 
 -- and where empty slots are left
+drop-replicate : {A : Type 0} (d : A) (n k : ℕ) → drop n (replicate k d) ≡ replicate (k - n) d
+drop-replicate d zero k = let e : k ≡ k - 0 = omega arith in ap (λ (m : ℕ). replicate m d) e
+drop-replicate d (suc n) zero = let e : 0 ≡ 0 - suc n = omega arith in ap (λ (m : ℕ). replicate m d) e
+drop-replicate d (suc n) (suc k) = let e : k - n ≡ suc k - suc n = omega arith in drop-replicate d n k ∙ ap (λ (m : ℕ). replicate m d) e
+
 pub copy-filled : {A : Type 0} (d : A) (s : List A) (k i : ℕ) → i ≤ length s → paste (filled k d []) 0 s i ≡ filled k d (take i s)
 unfolding filled
 copy-filled {A = A} d s k i h =

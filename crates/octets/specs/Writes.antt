@@ -1,18 +1,18 @@
 -- What is written over a list: from its start on, and one list behind another. Assumes nothing.
-use mathlib.Core.Path.{_≡_, sym, ap, ap₂, _∙_}
-use mathlib.Core.List.{List, _++_, append-assoc}
-use Prim.Native.Nat.{ℕ, zero, suc, _+_, _-_, _≤_}
+use mathlib.Core.Path.{_≡_, refl, sym, ap, ap₂, _∙_}
+use mathlib.Core.List.{List, _∷_, _++_, append-assoc}
+use Prim.Native.Nat.{ℕ, zero, suc, _+_, _≤_}
 use native.Mathlib.Nat.{zero-add}
 use native.Mathlib.Omega.{arith}
 use lib.ListN.{length, take, drop, replicate, length-append}
 use lib.Seq.{length-take-le, take-at, drop-append-add, drop-drop}
 use Rattle.octets.specs.Lists.{over}
 
--- equal elements, less the first n of them
-pub drop-replicate : {A : Type 0} (d : A) (n k : ℕ) → drop n (replicate k d) ≡ replicate (k - n) d
-drop-replicate d zero k = let e : k ≡ k - 0 = omega arith in ap (λ (m : ℕ). replicate m d) e
-drop-replicate d (suc n) zero = let e : 0 ≡ 0 - suc n = omega arith in ap (λ (m : ℕ). replicate m d) e
-drop-replicate d (suc n) (suc k) = let e : k - n ≡ suc k - suc n = omega arith in drop-replicate d n k ∙ ap (λ (m : ℕ). replicate m d) e
+-- the first n of so many zeros
+pub zeros-of : (m n : ℕ) → n ≤ m → _≡_ {A = List ℕ} (take n (replicate m 0)) (replicate n 0)
+zeros-of m zero h = refl
+zeros-of zero (suc n) h = absurd (omega arith)
+zeros-of (suc m) (suc n) h = ap (λ (x : List ℕ). 0 ∷ x) (zeros-of m n (omega arith))
 
 pub over-front : (d s : List ℕ) → over d 0 s ≡ s ++ drop (length s) d
 unfolding over

@@ -1,10 +1,9 @@
 -- What Accept writes over its work buffer, from the start: the deciphered response, and zeros. Assumes nothing.
 use mathlib.Core.Path.{_≡_, refl, ap, ap₂, _∙_}
-use mathlib.Core.List.{List, _∷_, _++_}
-use Prim.Native.Nat.{ℕ, zero, suc, _+_, _/_, _%_, _≤_}
+use mathlib.Core.List.{List, _++_}
+use Prim.Native.Nat.{ℕ, _+_, _/_, _%_}
 use native.Mathlib.Omega.{arith}
-use native.Mathlib.Nat.{le-of-suc-le-suc, not-suc-le-zero}
-use lib.ListN.{length, take, drop, replicate}
+use lib.ListN.{length, take, drop}
 use lib.Seq.{drop-at}
 use Rattle.octets.specs.Lists.{over}
 use Rattle.octets.specs.Writes.{take-over}
@@ -24,11 +23,6 @@ behind d s n l = let z : 0 + length s ≡ n = omega arith in drop-at s (drop (0 
 pub over-again : (d s t : List ℕ) → length s ≡ length t → over (over d 0 s) 0 t ≡ over d 0 t
 unfolding over
 over-again d s t l = ap (λ (x : List ℕ). t ++ x) (behind d s (0 + length t) (omega arith))
-
-pub zeros-of : (m n : ℕ) → n ≤ m → _≡_ {A = List ℕ} (take n (replicate m 0)) (replicate n 0)
-zeros-of m zero h = refl
-zeros-of zero (suc n) h = absurd (not-suc-le-zero h)
-zeros-of (suc m) (suc n) h = ap (λ (x : List ℕ). 0 ∷ x) (zeros-of m n (le-of-suc-le-suc h))
 
 -- the response is copied, and deciphered where it stands
 pub deciphered-writes :
