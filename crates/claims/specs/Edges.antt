@@ -1,9 +1,9 @@
--- The edges of document 01 that are marked P, and those of T-01, as one list of statements. Each speaks of what the operations hand back: a load, a
+-- The edges of document 01 that are marked P, and those of T-01 and T-02, as one list of statements. Each speaks of what the operations hand back: a load, a
 -- command call, Seal, unpadding. `EdgesHold` has the one theorem that all of them hold.
 use mathlib.Core.Path.{_≡_}
 use mathlib.Core.Bool.{true, false}
 use mathlib.Core.List.{List, [], _∷_, _++_, map}
-use Prim.Native.Nat.{ℕ, _+_, _/_, _%_, _<_, _≤_}
+use Prim.Native.Nat.{ℕ, _+_, _*_, _/_, _%_, _<_, _≤_}
 use lib.ListN.{length, getD, take, drop, replicate}
 use Rattle.octets.specs.Lists.{part}
 use Rattle.aes.specs.Aes.{aes}
@@ -174,6 +174,18 @@ edges =
     Of (λ l. lengths l ≡ 15 ∷ 64 ∷ []) (λ l. Replies l 0 6 64 (recordGiven l 0 ++ replicate 49 0) × Replies l 1 6 64 (recordGiven l 1)) ∷
     -- one record of 4 alone: B 2, no filler
     Of (λ l. lengths l ≡ 4 ∷ []) (λ l. Replies l 0 2 4 (recordGiven l 0)) ∷
+    -- T-02: 30 82 00 08 and two entries, slots 2 then 5: set 5, 24
+    Of (λ l. Gave l 0 2 × Gave l 1 5) (λ l. EachCall l (framed 0x87 (0x30 ∷ 0x82 ∷ 0 ∷ 8 ∷ 4 ∷ 2 ∷ 0 ∷ 5 ∷ 4 ∷ 2 ∷ 0 ∷ 2 ∷ [])) (Answered l 5 24)) ∷
+    -- 30 80 04 02 00 01 00 00, set 1 held: set 1, 16
+    Of (λ l. (i : ℕ) × Gave l i 1) (λ l. EachCall l (framed 0x87 (0x30 ∷ 0x80 ∷ 4 ∷ 2 ∷ 0 ∷ 1 ∷ 0 ∷ 0 ∷ [])) (Answered l 1 16)) ∷
+    -- 30 80 00 00: refused, 8
+    OfAll (λ l. EachCall l (framed 0x87 (0x30 ∷ 0x80 ∷ 0 ∷ 0 ∷ [])) (Refused l 8)) ∷
+    -- 30 84 00 00 00 04 04 02 00 01, set 1 held: set 1, 16
+    Of (λ l. (i : ℕ) × Gave l i 1) (λ l. EachCall l (framed 0x87 (0x30 ∷ 0x84 ∷ 0 ∷ 0 ∷ 0 ∷ 4 ∷ 4 ∷ 2 ∷ 0 ∷ 1 ∷ [])) (Answered l 1 16)) ∷
+    -- 30 05 04 81 02 00 01, set 1 held: set 1, 8
+    Of (λ l. (i : ℕ) × Gave l i 1) (λ l. EachCall l (framed 0x87 (0x30 ∷ 5 ∷ 4 ∷ 0x81 ∷ 2 ∷ 0 ∷ 1 ∷ [])) (Answered l 1 8)) ∷
+    -- 30 FF and any bytes: refused
+    OfAll (λ l. (d : List ℕ) → EachCall l (framed 0x87 (0x30 ∷ 0xFF ∷ d)) (Refused l (8 * ((length d + 2) / 4)))) ∷
     []
 
 -- every statement of a list holds

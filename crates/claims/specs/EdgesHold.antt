@@ -1,4 +1,4 @@
--- Every edge of document 01 that is marked P, and every one of T-01, holds. Assumes nothing.
+-- Every edge of document 01 that is marked P, and every one of T-01 and T-02, holds. Assumes nothing.
 use mathlib.Core.Path.{_≡_, refl, sym, subst, ap, ap₂, _∙_}
 use mathlib.Core.Bool.{Bool, true, false, cond}
 use mathlib.Core.List.{List, [], _∷_, _++_, append-assoc, append-nil}
@@ -24,10 +24,12 @@ use Rattle.plaid_types.specs.declared.Session.{Session}
 use Rattle.plaid_types.specs.declared.Card.{Card}
 use Rattle.load.specs.Load.{pastMode, replySize, refusal, modesRefusal, loaded}
 use Rattle.load.specs.Laws.{size-below, stocked-session}
-use Rattle.frame.specs.Frame.{frameOf, initialIns, insOf, lcOf, whole, statusOf, dataOf}
+use Rattle.frame.specs.Frame.{frameOf, initialIns, insOf, lcOf, knownIns, whole, statusOf, dataOf}
 use Rattle.frame.specs.Laws.{frame-byte}
+use Rattle.frame.specs.Framed.{framed-status, framed-data}
 use Rattle.frame.specs.Declines.{noZero, padBytes, verdict}
-use Rattle.list.specs.Ber.{lengthAt, entryAt, head, walked, listed, placeCount}
+use Rattle.list.specs.Ber.{unsigned, fitting, lengthAt, entryAt, head, walked, ended, listed, placeCount}
+use Rattle.list.specs.Laws.{no-FF}
 use Rattle.initial.specs.Initial.{firstSlot, firstPlace, slotOf, acceptsInitial, str1, blockOf, initialReply}
 use Rattle.final_command.specs.Final.{decipheredText, keysHash, modeOf, accepting, acceptsFinal, bodyOf, finalReply}
 use Rattle.card.specs.Command.{replyTo, verdictOn, outcome, answerBytes}
@@ -36,7 +38,6 @@ use Rattle.card.specs.Demand3.{Sound, list-formulas}
 use Rattle.reader_seal.specs.Seal.{lcOf as lcFor, finalCommand, sealCommand, sealNumber, sealedOf, sealOutput}
 use Rattle.reader_seal.specs.Laws.{length-sealCommand}
 use Rattle.session_initial.specs.Held.{Holds, slot-holds, slot-missing}
-use Rattle.session_final.specs.SealFrame.{framed-status, framed-data}
 use Rattle.plaid.specs.Interface.{loadOf}
 use Rattle.session_final.specs.Reply.{refused-reply}
 use Rattle.claims.specs.Load.{Load, cardOf, recordGiven, bodyGiven}
@@ -115,6 +116,9 @@ passes cmd fresh room t e =
 record Frames (ins : ℕ) (d : List ℕ) : Type 0 where
   status : statusOf (length (framed ins d)) (frameOf (framed ins d)) ≡ 0x9000
   data-is : dataOf (framed ins d) ≡ d
+
+frames-any : (ins : ℕ) (d : List ℕ) → knownIns ins ≡ true → 0 < length d → Frames ins d
+frames-any ins d k h = record { status = framed-status ins (length d) d refl k h; data-is = framed-data ins (length d) d refl }
 
 -- such a call on a load's card: it hands back what the reply says, and its counts are the formulas'
 module _ (l : Load) (ins : ℕ) (d : List ℕ) (f : Frames ins d) (s : Session) (fresh : List ℕ) (room : ℕ) (lr : length (s .rnd1) ≡ 16) (t : Lent fresh room) where
@@ -225,25 +229,40 @@ answers d k m l i g s fresh room lr t =
     answered l d (m .frames) s fresh room lr t k (firstSlot 0 true (idOf k) (cardOf l .sets)) (m .slot (withSession (cardOf l) s) (h .below)) h
 
 names-one : Names (0x30 ∷ 4 ∷ 4 ∷ 2 ∷ 0 ∷ 1 ∷ []) 1
-unfolding statusOf whole frameOf dataOf part slotOf firstPlace listed head walked entryAt lengthAt
+unfolding statusOf whole frameOf dataOf part slotOf firstPlace listed head walked ended entryAt lengthAt fitting unsigned
 names-one = record { frames = record { status = refl; data-is = refl }; slot = λ c h. rw (ne-eqb (firstSlot 0 true (idOf 1) (c .sets)) 8 (λ z. omega arith)) }
 
 names-five : Names (0x30 ∷ 8 ∷ 4 ∷ 2 ∷ 0 ∷ 5 ∷ 4 ∷ 2 ∷ 0 ∷ 2 ∷ []) 5
-unfolding statusOf whole frameOf dataOf part slotOf firstPlace listed head walked entryAt lengthAt
+unfolding statusOf whole frameOf dataOf part slotOf firstPlace listed head walked ended entryAt lengthAt fitting unsigned
 names-five = record { frames = record { status = refl; data-is = refl }; slot = λ c h. rw (ne-eqb (firstSlot 0 true (idOf 5) (c .sets)) 8 (λ z. omega arith)) }
 
 names-one-81 : Names (0x30 ∷ 0x81 ∷ 4 ∷ 4 ∷ 2 ∷ 0 ∷ 1 ∷ []) 1
-unfolding statusOf whole frameOf dataOf part slotOf firstPlace listed head walked entryAt lengthAt
+unfolding statusOf whole frameOf dataOf part slotOf firstPlace listed head walked ended entryAt lengthAt fitting unsigned
 names-one-81 = record { frames = record { status = refl; data-is = refl }; slot = λ c h. rw (ne-eqb (firstSlot 0 true (idOf 1) (c .sets)) 8 (λ z. omega arith)) }
 
-one-edge : Of (λ l. (i : ℕ) × Gave l i 1) (λ l. EachCall l (framed 0x87 (0x30 ∷ 4 ∷ 4 ∷ 2 ∷ 0 ∷ 1 ∷ [])) (Answered l 1 8))
-one-edge = ((load-16 .0, (0, load-16 .1 .1)), λ l p. answers _ 1 names-one l (p .0) (p .1))
+names-five-82 : Names (0x30 ∷ 0x82 ∷ 0 ∷ 8 ∷ 4 ∷ 2 ∷ 0 ∷ 5 ∷ 4 ∷ 2 ∷ 0 ∷ 2 ∷ []) 5
+unfolding statusOf whole frameOf dataOf part slotOf firstPlace listed head walked ended entryAt lengthAt fitting unsigned
+names-five-82 = record { frames = record { status = refl; data-is = refl }; slot = λ c h. rw (ne-eqb (firstSlot 0 true (idOf 5) (c .sets)) 8 (λ z. omega arith)) }
 
-five-edge : Of (λ l. Gave l 0 2 × Gave l 1 5) (λ l. EachCall l (framed 0x87 (0x30 ∷ 8 ∷ 4 ∷ 2 ∷ 0 ∷ 5 ∷ 4 ∷ 2 ∷ 0 ∷ 2 ∷ [])) (Answered l 5 16))
-five-edge = (load-two, λ l p. answers _ 5 names-five l 1 (p .1))
+names-one-80 : Names (0x30 ∷ 0x80 ∷ 4 ∷ 2 ∷ 0 ∷ 1 ∷ 0 ∷ 0 ∷ []) 1
+unfolding statusOf whole frameOf dataOf part slotOf firstPlace listed head walked ended entryAt lengthAt fitting unsigned
+names-one-80 = record { frames = record { status = refl; data-is = refl }; slot = λ c h. rw (ne-eqb (firstSlot 0 true (idOf 1) (c .sets)) 8 (λ z. omega arith)) }
 
-one-81-edge : Of (λ l. (i : ℕ) × Gave l i 1) (λ l. EachCall l (framed 0x87 (0x30 ∷ 0x81 ∷ 4 ∷ 4 ∷ 2 ∷ 0 ∷ 1 ∷ [])) (Answered l 1 8))
-one-81-edge = ((load-16 .0, (0, load-16 .1 .1)), λ l p. answers _ 1 names-one-81 l (p .0) (p .1))
+names-one-84 : Names (0x30 ∷ 0x84 ∷ 0 ∷ 0 ∷ 0 ∷ 4 ∷ 4 ∷ 2 ∷ 0 ∷ 1 ∷ []) 1
+unfolding statusOf whole frameOf dataOf part slotOf firstPlace listed head walked ended entryAt lengthAt fitting unsigned
+names-one-84 = record { frames = record { status = refl; data-is = refl }; slot = λ c h. rw (ne-eqb (firstSlot 0 true (idOf 1) (c .sets)) 8 (λ z. omega arith)) }
+
+names-one-entry-81 : Names (0x30 ∷ 5 ∷ 4 ∷ 0x81 ∷ 2 ∷ 0 ∷ 1 ∷ []) 1
+unfolding statusOf whole frameOf dataOf part slotOf firstPlace listed head walked ended entryAt lengthAt fitting unsigned
+names-one-entry-81 = record { frames = record { status = refl; data-is = refl }; slot = λ c h. rw (ne-eqb (firstSlot 0 true (idOf 1) (c .sets)) 8 (λ z. omega arith)) }
+
+-- set 1 held
+one-edge : (d : List ℕ) → Names d 1 → Of (λ l. (i : ℕ) × Gave l i 1) (λ l. EachCall l (framed 0x87 d) (Answered l 1 (8 * (length d / 4))))
+one-edge d m = ((load-16 .0, (0, load-16 .1 .1)), λ l p. answers d 1 m l (p .0) (p .1))
+
+-- slots 2 then 5
+five-edge : (d : List ℕ) → Names d 5 → Of (λ l. Gave l 0 2 × Gave l 1 5) (λ l. EachCall l (framed 0x87 d) (Answered l 5 (8 * (length d / 4))))
+five-edge d m = (load-two, λ l p. answers d 5 m l 1 (p .1))
 
 -- "Refused (malformed or no match)": no entry, or a malformed list, which "has only missing places"
 record NamesNone (d : List ℕ) : Type 0 where
@@ -266,19 +285,40 @@ malformed-refused : (d : List ℕ) → listed d .formed ≡ false → (c : Card)
 unfolding slotOf
 malformed-refused d f c e = rw (f, malformed (c .sets) d (listed d .first) (placeCount d) e)
 
+-- an empty list has no entry
 none-edge : OfAll (λ l. EachCall l (framed 0x87 (0x30 ∷ 0 ∷ [])) (Refused l 0))
 unfolding statusOf whole frameOf dataOf part slotOf firstPlace
 none-edge = refuses (0x30 ∷ 0 ∷ []) (record { frames = record { status = refl; data-is = refl }; slot = λ c e. refl })
 
+ill-edge : (d : List ℕ) → 0 < length d → listed d .formed ≡ false → OfAll (λ l. EachCall l (framed 0x87 d) (Refused l (8 * (length d / 4))))
+ill-edge d h f = refuses d (record { frames = frames-any 0x87 d refl h; slot = malformed-refused d f })
+
 left-over-edge : OfAll (λ l. EachCall l (framed 0x87 (0x30 ∷ 4 ∷ 4 ∷ 2 ∷ 0 ∷ 1 ∷ 0 ∷ [])) (Refused l 8))
-unfolding statusOf whole frameOf dataOf part listed head walked entryAt lengthAt
-left-over-edge =
-    refuses (0x30 ∷ 4 ∷ 4 ∷ 2 ∷ 0 ∷ 1 ∷ 0 ∷ []) (record { frames = record { status = refl; data-is = refl }; slot = malformed-refused (0x30 ∷ 4 ∷ 4 ∷ 2 ∷ 0 ∷ 1 ∷ 0 ∷ []) refl })
+unfolding listed head walked ended entryAt lengthAt fitting
+left-over-edge = ill-edge (0x30 ∷ 4 ∷ 4 ∷ 2 ∷ 0 ∷ 1 ∷ 0 ∷ []) (omega arith) refl
 
 one-byte-edge : OfAll (λ l. EachCall l (framed 0x87 (0x30 ∷ 3 ∷ 4 ∷ 1 ∷ 1 ∷ [])) (Refused l 8))
-unfolding statusOf whole frameOf dataOf part listed head walked entryAt lengthAt
-one-byte-edge =
-    refuses (0x30 ∷ 3 ∷ 4 ∷ 1 ∷ 1 ∷ []) (record { frames = record { status = refl; data-is = refl }; slot = malformed-refused (0x30 ∷ 3 ∷ 4 ∷ 1 ∷ 1 ∷ []) refl })
+unfolding listed head walked ended entryAt lengthAt fitting
+one-byte-edge = ill-edge (0x30 ∷ 3 ∷ 4 ∷ 1 ∷ 1 ∷ []) (omega arith) refl
+
+none-80-edge : OfAll (λ l. EachCall l (framed 0x87 (0x30 ∷ 0x80 ∷ 0 ∷ 0 ∷ [])) (Refused l 8))
+unfolding slotOf firstPlace listed head walked ended entryAt
+none-80-edge =
+    let d : List ℕ = 0x30 ∷ 0x80 ∷ 0 ∷ 0 ∷ [] in
+    refuses d (record { frames = frames-any 0x87 d refl (omega arith); slot = λ c e. let q : firstSlot 0 false (idOf 0) (c .sets) ≡ 8 = omega (arith, slot-missing 0 (idOf 0) (c .sets)) in rw q })
+
+-- whatever stands behind FF
+ff-formed : (d : List ℕ) → listed (0x30 ∷ 0xFF ∷ d) .formed ≡ false
+unfolding listed
+ff-formed d = rw (no-FF (0x30 ∷ 0xFF ∷ d) refl)
+
+ff-edge : OfAll (λ l. (d : List ℕ) → EachCall l (framed 0x87 (0x30 ∷ 0xFF ∷ d)) (Refused l (8 * ((length d + 2) / 4))))
+ff-edge = (
+  load-16 .0,
+  λ l d s fresh room lr t. let e : length (0x30 ∷ 0xFF ∷ d) ≡ length d + 2 = omega arith in
+      subst (λ (n : ℕ). Refused l (8 * (n / 4)) (withSession (cardOf l) s) (record { command = framed 0x87 (0x30 ∷ 0xFF ∷ d); fresh = fresh; room = room })) e
+      (ill-edge (0x30 ∷ 0xFF ∷ d) (omega arith) (ff-formed d) .1 l s fresh room lr t),
+)
 
 -- the records of a load by their lengths
 module _ (l : Load) where
@@ -438,14 +478,10 @@ not-accepted : (c : Card) (d : List ℕ) → (length d % 16 ≡ 0 → ⊥) → a
 unfolding acceptsFinal
 not-accepted c d h = not-accepting (c .session .opened) (length d) (decipheredText c d) (keysHash c d) (modeOf c d) h
 
-final-frames : (d : List ℕ) → 0 < length d → Frames 0x86 d
-unfolding finalCommand
-final-frames d h = record { status = framed-status (length d) d refl h; data-is = framed-data (length d) d refl }
-
 final-refused : (l : Load) → cardOf l .«reply_size» ≡ 3 → (d : List ℕ) → 0 < length d → (length d % 16 ≡ 0 → ⊥) → EachCall l (framed 0x86 d) (FinalRefused l (length d / 16))
 unfolding reply finalReply
 final-refused l b d h o s fresh room lr t =
-    let f = final-frames d h in
+    let f = frames-any 0x86 d refl h in
     let e : shapeOf (outcomeOf (withSession (cardOf l) s) (record { command = framed 0x86 d; fresh = fresh; room = room }) .answer) ≡ finalShape 3 (length d) =
     call-shape l 0x86 d f s fresh room lr t ∙ rw b in
     let r = not-accepted (withSession (cardOf l) s) d o in
@@ -474,12 +510,12 @@ final-edge lc h o = (
 pub all-edges : All edges
 unfolding edges
 all-edges =
-    one-edge and
-    five-edge and
+    one-edge _ names-one and
+    five-edge _ names-five and
     none-edge and
     left-over-edge and
     one-byte-edge and
-    one-81-edge and
+    one-edge _ names-one-81 and
     size-edge 15 (load-15 .0) (load-15 .1 .0) and
     size-edge 16 (load-16 .0) (load-16 .1 .0) and
     size-edge 64 (load-64 .0) (load-64 .1 .0) and
@@ -493,4 +529,10 @@ all-edges =
     both-edge and
     long-edge and
     alone-edge and
+    five-edge _ names-five-82 and
+    one-edge _ names-one-80 and
+    none-80-edge and
+    one-edge _ names-one-84 and
+    one-edge _ names-one-entry-81 and
+    ff-edge and
     end

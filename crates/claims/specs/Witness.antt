@@ -19,7 +19,7 @@ use Rattle.load.specs.Load.{pastSet, pastMode, refusal, modesRefusal, loadedCar
 use Rattle.card.specs.Command.{replyTo, done, undone, verdictOn, outcome, answerBytes}
 use Rattle.card.specs.Lists.{Call, cardAfter, Agree, none, more}
 use Rattle.reader_list.specs.List.{listNumber, listed, listOutput, listCommand}
-use Rattle.list.specs.Ber.{lengthAt, entryAt, head, walked}
+use Rattle.list.specs.Ber.{fitting, lengthAt, entryAt, head, walked, ended}
 use Rattle.list.specs.Ber as ber
 use Rattle.list.specs.Encoding.{encoded, shortEntries}
 use Rattle.initial.specs.Initial.{firstPlace, slotOf, str1, blockOf, initialReply}
@@ -120,7 +120,7 @@ unfoldable pub first : List ℕ
 first = answer₁ (exchange 7 4 [])
 
 first-long : length first ≡ 256
-unfolding first exchange one-two load-of mode given area set fresh broken-off loadOf loaded refusal modesRefusal loadedCard filled listed listNumber listOutput listCommand encoded shortEntries part over cardAfter outcome answerBytes replyTo verdict frameOf statusOf whole dataOf padBytes initialReply slotOf firstPlace lengthAt entryAt head walked ber.listed str1 blockOf
+unfolding first exchange one-two load-of mode given area set fresh broken-off loadOf loaded refusal modesRefusal loadedCard filled listed listNumber listOutput listCommand encoded shortEntries part over cardAfter outcome answerBytes replyTo verdict frameOf statusOf whole dataOf padBytes initialReply slotOf firstPlace fitting lengthAt entryAt head walked ended ber.listed str1 blockOf
 first-long = refl
 
 unfoldable pub session : ℕ → ℕ → Exchange

@@ -1,74 +1,114 @@
 -- Laws of the list's lengths, entries and walks: what is seen where there is one, and how far each reaches. Assumes nothing.
-use mathlib.Core.Path.{_≡_, refl, sym, ap, _∙_}
+use mathlib.Core.Path.{_≡_, refl, sym, ap, ap₂, _∙_}
 use mathlib.Core.Bool.{Bool, true, false, cond, _&&_, and-eq-true-iff, false≢true, true≢false}
-use mathlib.Core.List.{List}
-use Prim.Native.Nat.{ℕ, zero, suc, _+_, _*_, _<_, _≤_}
+use mathlib.Core.List.{List, [], _∷_, _++_}
+use Prim.Native.Nat.{ℕ, zero, suc, _+_, _*_, _-_, _^_, _<_, _≤_}
+use native.Mathlib.Nat.{pow-suc, mul-assoc}
+use native.Mathlib.Numerals.{add-one}
 use native.Mathlib.Omega.{arith}
-use borrow.Author.Tests.{ltb-true, eqb-true, lt-ltb, le-ltb}
-use lib.Dec.{eqb, ltb}
-use lib.ListN.{length, getD}
+use borrow.Author.Tests.{ltb-true, leb-true, eqb-true, lt-ltb, le-ltb, le-leb, ne-eqb}
+use lib.Dec.{eqb, ltb, leb}
+use lib.ListN.{length, getD, length-append, List·getD-eq-default}
+use Rattle.octets.specs.Lists.{part}
 use Rattle.list.specs.declared.Length.{Length}
 use Rattle.list.specs.declared.Entry.{Entry}
-use Rattle.list.specs.Ber.{lengthAt, entryAt, head, walked, noLength, noEntry}
+use Rattle.list.specs.declared.Outer.{Outer}
+use Rattle.list.specs.Ber.{unsigned, fitting, lengthAt, entryAt, noHead, head, walked, noLength, noEntry}
 
--- the bytes of a length v at place p, in one of its two forms, up to place n
+-- a number has a byte more at its end
+times-by : (q u b : ℕ) → q * 256 + (u * 256 + b) ≡ (q + u) * 256 + b
+times-by q u b = omega arith
+
+pub unsigned-more : (s : List ℕ) (b : ℕ) → unsigned (s ++ (b ∷ [])) ≡ unsigned s * 256 + b
+unfolding unsigned
+unsigned-more [] b = omega arith
+unsigned-more (x ∷ s) b =
+    let n : length (s ++ (b ∷ [])) ≡ suc (length s) = length-append s (b ∷ []) ∙ add-one (length s) in
+    let q : x * 256 ^ length (s ++ (b ∷ [])) ≡ x * 256 ^ length s * 256 =
+    ap (λ (m : ℕ). x * 256 ^ m) n ∙ ap (λ (m : ℕ). x * m) (pow-suc 256 (length s)) ∙ sym (mul-assoc x (256 ^ length s) 256) in
+    ap₂ _+_ q (unsigned-more s b) ∙ times-by (x * 256 ^ length s) (unsigned s) b
+
+-- the largest usize
+abbrev pub largest : ℕ
+largest = 18446744073709551615
+
+-- the bytes of a length v at place p, in one of its two forms, up to place n; and v bytes behind them
 pub data Sized (d : List ℕ) (p v n : ℕ) : Type 0 where
-  short-at : p < length d → getD d p 0 ≡ v → v < 0x80 → n ≡ p + 1 → Sized d p v n
-  long-at : p + 1 < length d → getD d p 0 ≡ 0x81 → getD d (p + 1) 0 ≡ v → n ≡ p + 2 → Sized d p v n
+  short-at : getD d p 0 ≡ v → v < 0x80 → n ≡ p + 1 → n + v ≤ length d → Sized d p v n
+  long-at : (m : ℕ) → getD d p 0 ≡ 0x80 + m → 0 < m → 0x80 + m < 0xFF → unsigned (part d (p + 1) m) ≡ v → n ≡ p + 1 + m → n + v ≤ length d → Sized d p v n
 
--- a length is told just where its bytes are
-abbrev told : List ℕ → ℕ → Bool → Bool → Bool → Length
-told d p a b c =
-    cond a
-    (cond b (record { ok = true; value = getD d p 0; next = p + 1 })
-    (cond c (record { ok = true; value = getD d (p + 1) 0; next = p + 2 }) (noLength p)))
-    (noLength p)
+pub record Reach (d : List ℕ) (p v n : ℕ) : Type 0 where
+  pub moves : p < n
+  pub fits : n + v ≤ length d
 
-sized-by :
-    (d : List ℕ) (p : ℕ) (a b c : Bool)
-    → ltb p (length d) ≡ a
-    → ltb (getD d p 0) 0x80 ≡ b
-    → eqb (getD d p 0) 0x81 && ltb (p + 1) (length d) ≡ c
-    → told d p a b c .ok ≡ true
-    → Sized d p (told d p a b c .value) (told d p a b c .next)
-sized-by d p true true c e f g t = short-at (ltb-true p (length d) e) refl (ltb-true (getD d p 0) 0x80 f) refl
-sized-by d p true false true e f g t =
-    let h = and-eq-true-iff _ _ .0 g in
-    long-at (ltb-true (p + 1) (length d) (h .1)) (eqb-true (getD d p 0) 0x81 (h .0)) refl refl
-sized-by d p true false false e f g t = absurd (false≢true t)
-sized-by d p false b c e f g t = absurd (false≢true t)
+pub sized-reach : {d : List ℕ} {p v n : ℕ} → Sized d p v n → Reach d p v n
+sized-reach (short-at e l q f) = record { moves = omega arith; fits = f }
+sized-reach (long-at m e z l u q f) = record { moves = omega arith; fits = f }
 
-pub length-sized : (d : List ℕ) (p : ℕ) → lengthAt d p .ok ≡ true → Sized d p (lengthAt d p .value) (lengthAt d p .next)
-unfolding lengthAt
-length-sized d p t = sized-by d p _ _ _ refl refl refl t
+-- a length that fits is told
+pub fits-told : (d : List ℕ) (p v n : ℕ) → n + v ≤ length d → fitting d p v n ≡ record { ok = true; value = v; next = n }
+unfolding fitting
+fits-told d p v n h = simp (le-leb (n + v) (length d) h)
 
 pub sized-length : {d : List ℕ} {p v n : ℕ} → Sized d p v n → lengthAt d p ≡ record { ok = true; value = v; next = n }
 unfolding lengthAt
-sized-length {d} {p} {v} {n} (short-at h e l q) = simp (lt-ltb p (length d) h, e, lt-ltb v 0x80 l, q)
-sized-length {d} {p} {v} {n} (long-at h e f q) = simp (lt-ltb p (length d) (omega arith), e, lt-ltb (p + 1) (length d) h, f, q)
+sized-length {d} {p} {v} {n} (short-at e l q f) = simp (e, lt-ltb v 0x80 l, ← q, fits-told d p v n f)
+sized-length {d} {p} {v} {n} (long-at m e z l u q f) =
+    let k : 0x80 + m - 0x80 ≡ m = omega arith in
+    simp (e, le-ltb (0x80 + m) 0x80 (omega arith), lt-ltb 0x80 (0x80 + m) (omega arith), lt-ltb (0x80 + m) 0xFF l, k, u, ← q, fits-told d p v n f)
 
-pub record Reach (d : List ℕ) (p n : ℕ) : Type 0 where
-  pub moves : p < n
-  pub within : n ≤ length d
+-- and none else
+pub record Fits (d : List ℕ) (v n : ℕ) (l : Length) : Type 0 where
+  pub value : l .value ≡ v
+  pub next : l .next ≡ n
+  pub fits : n + v ≤ length d
 
-pub sized-reach : {d : List ℕ} {p v n : ℕ} → Sized d p v n → Reach d p n
-sized-reach (short-at h e l q) = record { moves = omega arith; within = omega arith }
-sized-reach (long-at h e f q) = record { moves = omega arith; within = omega arith }
+fits-by : (d : List ℕ) (p v n : ℕ) (b : Bool) → leb (n + v) (length d) ≡ b → cond b (record { ok = true; value = v; next = n }) (noLength p) .ok ≡ true → Fits d v n (cond b (record { ok = true; value = v; next = n }) (noLength p))
+fits-by d p v n true e t = record { value = refl; next = refl; fits = leb-true (n + v) (length d) e }
+fits-by d p v n false e t = absurd (false≢true t)
+
+told-fits : (d : List ℕ) (p v n : ℕ) → fitting d p v n .ok ≡ true → Fits d v n (fitting d p v n)
+unfolding fitting
+told-fits d p v n t = fits-by d p v n (leb (n + v) (length d)) refl t
+
+abbrev told : List ℕ → ℕ → ℕ → Bool → Bool → Length
+told d p b x y = cond x (fitting d p b (p + 1)) (cond y (fitting d p (unsigned (part d (p + 1) (b - 0x80))) (p + 1 + (b - 0x80))) (noLength p))
+
+sized-by :
+    (d : List ℕ) (p : ℕ) (x y : Bool)
+    → ltb (getD d p 0) 0x80 ≡ x
+    → ltb 0x80 (getD d p 0) && ltb (getD d p 0) 0xFF ≡ y
+    → told d p (getD d p 0) x y .ok ≡ true
+    → Sized d p (told d p (getD d p 0) x y .value) (told d p (getD d p 0) x y .next)
+sized-by d p true y e f t =
+    let k = told-fits d p (getD d p 0) (p + 1) t in
+    let h = k .fits in
+    short-at (sym (k .value)) (rw (k .value) (ltb-true (getD d p 0) 0x80 e)) (k .next) (rw (k .value, k .next) h)
+sized-by d p false true e f t =
+    let m : ℕ = getD d p 0 - 0x80 in
+    let k = told-fits d p (unsigned (part d (p + 1) m)) (p + 1 + m) t in
+    let g = and-eq-true-iff (ltb 0x80 (getD d p 0)) _ .0 f in
+    let a = ltb-true 0x80 (getD d p 0) (g .0) in
+    let b = ltb-true (getD d p 0) 0xFF (g .1) in
+    let h = k .fits in
+    long-at m (omega arith) (omega arith) (omega arith) (sym (k .value)) (k .next) (rw (k .value, k .next) h)
+sized-by d p false false e f t = absurd (false≢true t)
+
+pub length-sized : (d : List ℕ) (p : ℕ) → lengthAt d p .ok ≡ true → Sized d p (lengthAt d p .value) (lengthAt d p .next)
+unfolding lengthAt
+length-sized d p t = sized-by d p _ _ refl refl t
 
 -- what is seen where an entry stands at place p: its content is the two bytes at place m
 pub record Seen (d : List ℕ) (p m : ℕ) : Type 0 where
   pub tag : getD d p 0 ≡ 4
   pub sized : Sized d (p + 1) 2 m
-  pub content : m + 1 < length d
 
 abbrev pub theEntry : List ℕ → ℕ → Entry
 theEntry d m = record { ok = true; id = record { 0 = getD d m 0 * 256 + getD d (m + 1) 0 }; next = m + 2 }
 
 pub seen-entry : {d : List ℕ} {p m : ℕ} → Seen d p m → entryAt d p ≡ theEntry d m
 unfolding entryAt
-seen-entry {d} {p} {m} s =
-    let r = sized-reach (s .sized) in
-    simp (sized-length (s .sized), lt-ltb p (length d) (omega arith), s .tag, lt-ltb (m + 1) (length d) (s .content))
+seen-entry {d} {p} {m} s = simp (sized-length (s .sized), s .tag)
 
 -- at each place there is an entry that is seen, or none
 pub data Case (d : List ℕ) (p : ℕ) (e : Entry) : Type 0 where
@@ -79,19 +119,16 @@ case-by :
     (d : List ℕ) (p : ℕ) (l : Length)
     → l ≡ lengthAt d (p + 1)
     → (b : Bool)
-    → ltb p (length d) && (eqb (getD d p 0) 4 && (l .ok && (eqb (l .value) 2 && ltb (l .next + 1) (length d)))) ≡ b
+    → eqb (getD d p 0) 4 && (l .ok && eqb (l .value) 2) ≡ b
     → Case d p (cond b (theEntry d (l .next)) (noEntry p))
 case-by d p l q true e =
-    let h1 = and-eq-true-iff (ltb p (length d)) _ .0 e in
-    let h2 = and-eq-true-iff (eqb (getD d p 0) 4) _ .0 (h1 .1) in
-    let h3 = and-eq-true-iff (l .ok) _ .0 (h2 .1) in
-    let h4 = and-eq-true-iff (eqb (l .value) 2) _ .0 (h3 .1) in
+    let h1 = and-eq-true-iff (eqb (getD d p 0) 4) _ .0 e in
+    let h2 = and-eq-true-iff (l .ok) _ .0 (h1 .1) in
     there
     (l .next)
     (record {
-      tag = eqb-true (getD d p 0) 4 (h2 .0);
-      sized = rw (eqb-true (l .value) 2 (h4 .0)) at (rw (← q) at (length-sized d (p + 1)) (h3 .0));
-      content = ltb-true (l .next + 1) (length d) (h4 .1);
+      tag = eqb-true (getD d p 0) 4 (h1 .0);
+      sized = rw (eqb-true (l .value) 2 (h2 .1)) at (rw (← q) at (length-sized d (p + 1)) (h2 .0));
     })
     refl
 case-by d p l q false e = missing refl
@@ -111,10 +148,13 @@ no-entry d p = no-entry-by d p (entryAt d p) (entry-case d p)
 pub no-next : (d : List ℕ) (p : ℕ) → entryAt d p .ok ≡ false → entryAt d p .next ≡ p
 no-next d p t = ap (λ (e : Entry). e .next) (no-entry d p t)
 
--- at the end of the data and past it there is none
-pub past-entry : (d : List ℕ) (p : ℕ) → length d ≤ p → entryAt d p ≡ noEntry p
+-- where tag 04 does not stand there is none; nor at the end of the data and past it
+pub no-tag : (d : List ℕ) (p : ℕ) → (getD d p 0 ≡ 4 → ⊥) → entryAt d p ≡ noEntry p
 unfolding entryAt
-past-entry d p h = simp (le-ltb p (length d) h)
+no-tag d p h = simp (ne-eqb (getD d p 0) 4 h)
+
+pub past-entry : (d : List ℕ) (p : ℕ) → length d ≤ p → entryAt d p ≡ noEntry p
+past-entry d p h = let q = List·getD-eq-default d 0 h in no-tag d p (λ e. omega arith)
 
 -- an entry takes four bytes or more, and they are in the data
 pub record Four (d : List ℕ) (p n : ℕ) : Type 0 where
@@ -122,7 +162,7 @@ pub record Four (d : List ℕ) (p n : ℕ) : Type 0 where
   pub within : n ≤ length d
 
 seen-four : {d : List ℕ} {p m : ℕ} → Seen d p m → Four d p (m + 2)
-seen-four s = let r = sized-reach (s .sized) in let h = s .content in record { four = omega arith; within = omega arith }
+seen-four s = let r = sized-reach (s .sized) in record { four = omega arith; within = omega arith }
 
 -- no entry leads back, nor out of the data
 next-ge-by : (d : List ℕ) (p : ℕ) (e : Entry) → Case d p e → p ≤ e .next
@@ -139,48 +179,45 @@ next-le-by d p e (missing q) h = rw q h
 pub next-le : (d : List ℕ) (p : ℕ) → p ≤ length d → entryAt d p .next ≤ length d
 next-le d p = next-le-by d p (entryAt d p) (entry-case d p)
 
--- a head h is right, tag 30 and the length l that says just what is left, or there is none
-pub record Right (d : List ℕ) (l h : Length) : Type 0 where
-  pub tag : getD d 0 0 ≡ 0x30
-  pub ok : l .ok ≡ true
-  pub fits : l .next + l .value ≡ length d
-  pub is : h ≡ l
+-- a head h is right, tag 30 and the length l that says just what is left, or 80; or there is none
+pub data HeadCase (d : List ℕ) (l : Length) (h : Outer) : Type 0 where
+  right : getD d 0 0 ≡ 0x30 → l .ok ≡ true → l .next + l .value ≡ length d → h ≡ record { ok = true; definite = true; first = l .next } → HeadCase d l h
+  open-end : getD d 0 0 ≡ 0x30 → getD d 1 0 ≡ 0x80 → h ≡ record { ok = true; definite = false; first = 2 } → HeadCase d l h
+  wrong : h ≡ noHead → HeadCase d l h
 
-pub data HeadCase (d : List ℕ) (l h : Length) : Type 0 where
-  right : Right d l h → HeadCase d l h
-  wrong : h ≡ noLength 0 → HeadCase d l h
+abbrev headed : Length → Bool → Bool → Bool → Outer
+headed l x y z =
+    cond x (cond y (record { ok = true; definite = false; first = 2 }) (cond z (record { ok = true; definite = true; first = l .next }) noHead)) noHead
 
 head-by :
-    (d : List ℕ) (l : Length) (b : Bool)
-    → eqb (getD d 0 0) 0x30 && (l .ok && eqb (l .next + l .value) (length d)) ≡ b
-    → HeadCase d l (cond b l (noLength 0))
-head-by d l true e =
-    let h1 = and-eq-true-iff (eqb (getD d 0 0) 0x30) _ .0 e in
-    let h2 = and-eq-true-iff (l .ok) _ .0 (h1 .1) in
-    right
-    (record {
-      tag = eqb-true (getD d 0 0) 0x30 (h1 .0);
-      ok = h2 .0;
-      fits = eqb-true (l .next + l .value) (length d) (h2 .1);
-      is = refl;
-    })
-head-by d l false e = wrong refl
+    (d : List ℕ) (l : Length) (x y z : Bool)
+    → eqb (getD d 0 0) 0x30 ≡ x
+    → eqb (getD d 1 0) 0x80 ≡ y
+    → l .ok && eqb (l .next + l .value) (length d) ≡ z
+    → HeadCase d l (headed l x y z)
+head-by d l true true z e f g = open-end (eqb-true (getD d 0 0) 0x30 e) (eqb-true (getD d 1 0) 0x80 f) refl
+head-by d l true false true e f g =
+    let h = and-eq-true-iff (l .ok) _ .0 g in
+    right (eqb-true (getD d 0 0) 0x30 e) (h .0) (eqb-true (l .next + l .value) (length d) (h .1)) refl
+head-by d l true false false e f g = wrong refl
+head-by d l false y z e f g = wrong refl
 
 pub head-case : (d : List ℕ) → HeadCase d (lengthAt d 1) (head d)
 unfolding head
-head-case d = head-by d (lengthAt d 1) _ refl
+head-case d = head-by d (lengthAt d 1) _ _ _ refl refl refl
 
-right-by : (d : List ℕ) (l h : Length) → HeadCase d l h → h .ok ≡ true → Right d l h
-right-by d l h (right r) t = r
-right-by d l h (wrong q) t = absurd (false≢true (sym (ap (λ (x : Length). x .ok) q) ∙ t))
+-- there is none, whatever the tag, where no length stands behind it; FF is none's first byte
+no-head-by : (b : Bool) → cond b noHead noHead ≡ noHead
+no-head-by true = refl
+no-head-by false = refl
 
-pub head-right : (d : List ℕ) → head d .ok ≡ true → Right d (lengthAt d 1) (head d)
-head-right d = right-by d (lengthAt d 1) (head d) (head-case d)
+pub no-head : (d : List ℕ) → (getD d 1 0 ≡ 0x80 → ⊥) → lengthAt d 1 ≡ noLength 1 → head d ≡ noHead
+unfolding head
+no-head d h e = simp (ne-eqb (getD d 1 0) 0x80 h, e) (no-head-by (eqb (getD d 0 0) 0x30))
 
--- the first entry's place is in the data
-first-by : (d : List ℕ) (l h : Length) → HeadCase d l h → h .next ≤ length d
-first-by d l h (right r) = let q = r .fits in rw (r .is) (omega arith)
-first-by d l h (wrong q) = rw q (omega arith)
+pub no-FF : (d : List ℕ) → getD d 1 0 ≡ 0xFF → head d ≡ noHead
+unfolding lengthAt
+no-FF d e = no-head d (λ z. omega arith) (simp e)
 
 -- a walk, from its front and from its back
 pub walked-front : (d : List ℕ) (p n : ℕ) → walked d p (suc n) ≡ walked d (entryAt d p .next) n

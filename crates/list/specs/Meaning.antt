@@ -1,21 +1,24 @@
 -- Well formed data are just the encodings of lists of KeySetIDs: floor(Lc/4) turns are enough to walk each, and the walk finds each KeySetID in its place.
 -- Assumes nothing.
-use mathlib.Core.Path.{_≡_, refl, sym, ap, subst⁻¹, _∙_}
-use mathlib.Core.Bool.{Bool, true, false, and-eq-true-iff, true≢false}
-use mathlib.Core.List.{List, [], _∷_}
+use mathlib.Core.Path.{_≡_, refl, sym, ap, ap₂, subst⁻¹, _∙_}
+use mathlib.Core.Bool.{Bool, true, false, _&&_, and-eq-true-iff, false≢true, true≢false}
+use mathlib.Core.List.{List, [], _∷_, _++_, append-assoc, append-nil}
 use Prim.Native.Nat.{ℕ, zero, suc, _+_, _*_, _-_, _/_, _%_, _<_, _≤_}
 use native.Mathlib.Nat.{not-suc-le-zero}
 use native.Mathlib.Numerals.{add-one}
 use native.Mathlib.Omega.{arith}
-use borrow.Author.Tests.{eq-eqb, eqb-true}
-use lib.ListN.{length, getD, drop, length-drop}
-use lib.Seq.{drop-cons, drop-length, ext-getD}
+use borrow.Author.Tests.{eq-eqb, ne-eqb, eqb-true}
+use lib.Dec.{eqb}
+use lib.ListN.{length, getD, take, drop, length-append, length-drop, take-append-drop}
+use lib.Seq.{drop-cons, drop-drop, drop-length, drop-append-seam, take-append-seam, getD-drop, ext-getD}
 use Rattle.octets.specs.Bytes.{Bytes}
+use Rattle.octets.specs.Lists.{part, length-part}
 use Rattle.list.specs.declared.Length.{Length}
 use Rattle.list.specs.declared.Entry.{Entry}
-use Rattle.list.specs.Ber.{lengthAt, entryAt, head, walked, listed}
-use Rattle.list.specs.Laws.{Sized, short-at, long-at, sized-length, sized-reach, length-sized, Seen, seen-entry, Case, there, missing, entry-case, past-entry, head-right, stuck, walked-front, walked-back, walked-add}
-use Rattle.list.specs.Encoding.{IsLength, short, long, AreEntries, none, more, Encodes, list, shortEntries, encoded}
+use Rattle.list.specs.declared.Outer.{Outer}
+use Rattle.list.specs.Ber.{unsigned, lengthAt, entryAt, head, walked, ended, listed}
+use Rattle.list.specs.Laws.{Sized, short-at, long-at, sized-length, sized-reach, length-sized, Seen, seen-entry, Case, there, missing, entry-case, no-tag, HeadCase, right, open-end, wrong, head-case, stuck, walked-front, walked-back, walked-add, walked-le}
+use Rattle.list.specs.Encoding.{IsLength, short, long, AreEntries, none, more, Encodes, definite, indefinite, shortEntries, encoded}
 
 -- from place p on, the data are b
 pub record At (d : List ℕ) (p : ℕ) (b : List ℕ) : Type 0 where
@@ -37,21 +40,33 @@ at-cons {d} {b} {p} {x} a =
     let e : getD d p 0 ∷ drop (suc p) d ≡ x ∷ b = sym (drop-cons d p 0 h) ∙ a .rest in
     record { within = h; byte = cc; rest = record { start = omega arith; rest = rw add-one (cc) } }
 
--- the bytes of a length are a length where they stand
+-- bytes s, and behind them r
+at-part : {d : List ℕ} {p : ℕ} (s r : List ℕ) → At d p (s ++ r) → part d p (length s) ≡ s
+unfolding part
+at-part s r a = ap (take (length s)) (a .rest) ∙ take-append-seam s r
+
+at-behind : {d : List ℕ} {p : ℕ} (s r : List ℕ) → At d p (s ++ r) → At d (p + length s) r
+at-behind {d} {p} s r a =
+    let h = at-length a in
+    let n = length-append s r in
+    record { start = omega arith; rest = sym (drop-drop (length s) p d) ∙ ap (drop (length s)) (a .rest) ∙ drop-append-seam s r }
+
+-- the bytes of a length that fits are a length where they stand
 record LengthSeen (d : List ℕ) (p v : ℕ) (r : List ℕ) : Type 0 where
   pub n : ℕ
   pub sized : Sized d p v n
   pub rest : At d n r
 
-length-seen : {d b r : List ℕ} {p v : ℕ} → IsLength v r b → At d p b → LengthSeen d p v r
-length-seen {d} {b} {r} {p} {v} (short l) a =
+length-seen : {d b r : List ℕ} {p v : ℕ} → IsLength v r b → v ≤ length r → At d p b → LengthSeen d p v r
+length-seen {d} {b} {r} {p} {v} (short l) f a =
     let k = at-cons a in
-    record { n = p + 1; sized = short-at (k .within) (k .byte) l refl; rest = k .rest }
-length-seen {d} {b} {r} {p} {v} long a =
+    let e = at-length (k .rest) in
+    record { n = p + 1; sized = short-at (k .byte) l refl (omega arith); rest = k .rest }
+length-seen {d} {b} {r} {p} {v} (long s z l u) f a =
     let k = at-cons a in
-    let m = at-cons (k .rest) in
-    let e : p + 1 + 1 ≡ p + 2 = omega arith in
-    record { n = p + 2; sized = long-at (m .within) (k .byte) (m .byte) refl; rest = rw e at (m .rest) }
+    let m = at-behind s r (k .rest) in
+    let e = at-length m in
+    record { n = p + 1 + length s; sized = long-at (length s) (k .byte) z l (ap unsigned (at-part s r (k .rest)) ∙ u) refl (omega arith); rest = m }
 
 -- the bytes of an entry are an entry where they stand
 record EntrySeen (d : List ℕ) (p k : ℕ) (r : List ℕ) : Type 0 where
@@ -62,14 +77,14 @@ record EntrySeen (d : List ℕ) (p k : ℕ) (r : List ℕ) : Type 0 where
 entry-seen : {d b r : List ℕ} {p k high low : ℕ} → k ≡ high * 256 + low → IsLength 2 (high ∷ low ∷ r) b → At d p (4 ∷ b) → EntrySeen d p k r
 entry-seen {d} {b} {r} {p} {k} {high} {low} q l a =
     let t = at-cons a in
-    let s = length-seen l (t .rest) in
+    let s = length-seen l (omega arith) (t .rest) in
     let x = at-cons (s .rest) in
     let y = at-cons (x .rest) in
     let e : s .n + 1 + 1 ≡ s .n + 2 = omega arith in
     let i : getD d (s .n) 0 * 256 + getD d (s .n + 1) 0 ≡ k = rw (x .byte, y .byte) (sym q) in
     record {
       n = s .n + 2;
-      is = seen-entry (record { tag = t .byte; sized = s .sized; content = y .within }) ∙ ap (λ (j : ℕ). record { ok = true; id = record { 0 = j }; next = s .n + 2 }) i;
+      is = seen-entry (record { tag = t .byte; sized = s .sized }) ∙ ap (λ (j : ℕ). record { ok = true; id = record { 0 = j }; next = s .n + 2 }) i;
       rest = rw e at (y .rest);
     }
 
@@ -78,95 +93,127 @@ pub record Place (d : List ℕ) (p k : ℕ) : Type 0 where
   pub ok : entryAt d p .ok ≡ true
   pub id : entryAt d p .id .0 ≡ k
 
--- the walk over the bytes of entries finds each in its place, and ends where they end
-record Walks (d : List ℕ) (p : ℕ) (ids : List ℕ) : Type 0 where
-  pub end : walked d p (length ids) ≡ length d
+-- the walk over the bytes of entries finds each in its place, and ends where t stands behind them
+record Walks (d t : List ℕ) (p : ℕ) (ids : List ℕ) : Type 0 where
+  pub end : At d (walked d p (length ids)) t
   pub place : (j : ℕ) → j < length ids → Place d (walked d p j) (getD ids j 0)
 
 walk-on : (d : List ℕ) (p k n j : ℕ) → entryAt d p ≡ record { ok = true; id = record { 0 = k }; next = n } → walked d p (suc j) ≡ walked d n j
 walk-on d p k n j e = walked-front d p j ∙ ap (λ (x : Entry). walked d (x .next) j) e
 
-place-cons :
-    (d : List ℕ) (p k n : ℕ) (ids : List ℕ)
-    → entryAt d p ≡ record { ok = true; id = record { 0 = k }; next = n }
-    → Walks d n ids
-    → (j : ℕ)
-    → j < length (k ∷ ids)
-    → Place d (walked d p j) (getD (k ∷ ids) j 0)
-unfolding walked
-place-cons d p k n ids e w zero h = record { ok = ap (λ (x : Entry). x .ok) e; id = ap (λ (x : Entry). x .id .0) e }
-place-cons d p k n ids e w (suc j) h = rw (walk-on d p k n j e) (w .place j (omega arith))
+module _ (d t : List ℕ) (p k n : ℕ) (ids : List ℕ) (e : entryAt d p ≡ record { ok = true; id = record { 0 = k }; next = n }) (w : Walks d t n ids) where
+  place-cons : (j : ℕ) → j < length (k ∷ ids) → Place d (walked d p j) (getD (k ∷ ids) j 0)
+  unfolding walked
+  place-cons zero h = record { ok = ap (λ (x : Entry). x .ok) e; id = ap (λ (x : Entry). x .id .0) e }
+  place-cons (suc j) h = rw (walk-on d p k n j e) (w .place j (omega arith))
 
-walks-cons : (d : List ℕ) (p k n : ℕ) (ids : List ℕ) → entryAt d p ≡ record { ok = true; id = record { 0 = k }; next = n } → Walks d n ids → Walks d p (k ∷ ids)
-walks-cons d p k n ids e w = record { end = walk-on d p k n (length ids) e ∙ w .end; place = place-cons d p k n ids e w }
+  walks-cons : Walks d t p (k ∷ ids)
+  walks-cons = record { end = rw (walk-on d p k n (length ids) e) (w .end); place = place-cons }
 
-walks : {d b : List ℕ} {p : ℕ} {ids : List ℕ} → AreEntries ids b → At d p b → Walks d p ids
+-- a length stays one with t behind all
+length-then : {v : ℕ} {r b : List ℕ} (t : List ℕ) → IsLength v r b → IsLength v (r ++ t) (b ++ t)
+length-then t (short l) = short l
+length-then {v} {r} t (long s z l u) = rw append-assoc (long s z l u)
+
+walks : {d b : List ℕ} {p : ℕ} {ids : List ℕ} (t : List ℕ) → AreEntries ids b → At d p (b ++ t) → Walks d t p ids
 unfolding walked
-walks none a = let l = at-length a in record { end = omega arith; place = λ j h. absurd (not-suc-le-zero h) }
-walks (more q l e) a = let s = entry-seen q l a in walks-cons _ _ _ (s .n) _ (s .is) (walks e (s .rest))
+walks t none a = record { end = a; place = λ j h. absurd (not-suc-le-zero h) }
+walks t (more q l e) a = let s = entry-seen q (length-then t l) a in walks-cons _ t _ _ (s .n) _ (s .is) (walks t e (s .rest))
 
 -- an entry takes four bytes or more
 length-long : {v : ℕ} {r b : List ℕ} → IsLength v r b → length r < length b
 length-long (short l) = omega arith
-length-long long = omega arith
+length-long {v} {r} (long s z l u) = omega (arith, length-append s r)
 
 entries-long : {ids b : List ℕ} → AreEntries ids b → 4 * length ids ≤ length b
 entries-long none = omega arith
 entries-long (more q l e) = omega (arith, length-long l, entries-long e)
 
+-- where the entries end, with the data or with two zero bytes, no entry stands
+end-missing : {d t : List ℕ} {p : ℕ} → At d p t → getD t 0 0 ≡ 0 → entryAt d p .ok ≡ false
+end-missing {d} {t} {p} a z =
+    let e : getD d (p + 0) 0 ≡ 0 = sym (getD-drop p d 0 0) ∙ ap (λ (x : List ℕ). getD x 0 0) (a .rest) ∙ z in
+    let q : p + 0 ≡ p = omega arith in
+    ap (λ (x : Entry). x .ok) (no-tag d p (λ f. let g = rw q at e in omega arith))
+
 -- so as many turns as there are entries are enough, and more do no harm
-walks-enough : {d b : List ℕ} {p : ℕ} {ids : List ℕ} → AreEntries ids b → At d p b → walked d p (length d / 4) ≡ length d
-walks-enough {d} {b} {p} {ids} e a =
+walks-enough : {d b : List ℕ} {p : ℕ} {ids : List ℕ} (t : List ℕ) → getD t 0 0 ≡ 0 → AreEntries ids b → At d p (b ++ t) → At d (walked d p (length d / 4)) t
+walks-enough {d} {b} {p} {ids} t z e a =
     let k : ℕ = length d / 4 - length ids in
-    let q : length d / 4 ≡ length ids + k = omega (arith, entries-long e, at-length a) in
-    ap (walked d p) q ∙ walked-add d p (length ids) k ∙ ap (λ (x : ℕ). walked d x k) (walks e a .end)
-    ∙ stuck d (length d) (ap (λ (x : Entry). x .ok) (past-entry d (length d) (omega arith))) k
+    let q : length d / 4 ≡ length ids + k = omega (arith, entries-long e, at-length a, length-append b t) in
+    let w = walks t e a .end in
+    let s : walked d p (length d / 4) ≡ walked d p (length ids) =
+    ap (walked d p) q ∙ walked-add d p (length ids) k ∙ stuck d (walked d p (length ids)) (end-missing w z) k in
+    rw s w
+
+-- what stands behind the entries: nothing, or the end-of-contents octets
+abbrev tail : Bool → List ℕ
+tail true = []
+tail false = 0 ∷ 0 ∷ []
+
+tail-zero : (f : Bool) → getD (tail f) 0 0 ≡ 0
+tail-zero true = refl
+tail-zero false = refl
+
+tail-ended : (d : List ℕ) (f : Bool) (p : ℕ) → At d p (tail f) → ended d f p ≡ true
+unfolding ended
+tail-ended d true p a = let l = at-length a in eq-eqb p (length d) (omega arith)
+tail-ended d false p a =
+    let l = at-length a in
+    let x = at-cons a in
+    simp (eq-eqb (p + 2) (length d) (omega arith), x .byte, at-cons (x .rest) .byte)
 
 -- the head of an encoding is right, and its entries follow
 record HeadSeen (d ids : List ℕ) : Type 0 where
+  pub form : Bool
   pub r : List ℕ
   pub n : ℕ
-  pub ok : head d .ok ≡ true
-  pub next : head d .next ≡ n
-  pub rest : At d n r
+  pub is : head d ≡ record { ok = true; definite = form; first = n }
+  pub rest : At d n (r ++ tail form)
   pub entries : AreEntries ids r
 
-head-at :
-    (d : List ℕ) (v n : ℕ)
-    → getD d 0 0 ≡ 0x30
-    → lengthAt d 1 ≡ record { ok = true; value = v; next = n }
-    → n + v ≡ length d
-    → head d ≡ record { ok = true; value = v; next = n }
+no-80 : {d : List ℕ} {p v n : ℕ} → Sized d p v n → getD d p 0 ≡ 0x80 → ⊥
+no-80 (short-at e l q f) z = omega arith
+no-80 (long-at m e h l u q f) z = omega arith
+
+head-at : (d : List ℕ) (v n : ℕ) → getD d 0 0 ≡ 0x30 → Sized d 1 v n → n + v ≡ length d → head d ≡ record { ok = true; definite = true; first = n }
 unfolding head
-head-at d v n t e q = simp (e, t, eq-eqb (n + v) (length d) q)
+head-at d v n t s q = simp (t, ne-eqb (getD d 1 0) 0x80 (no-80 s), sized-length s, eq-eqb (n + v) (length d) q)
 
 head-seen : {d ids : List ℕ} → Encodes ids d → HeadSeen d ids
-head-seen {d} {ids} (list {r} {b} l e) =
+unfolding head
+head-seen {d} {ids} (definite {r} {b} l e) =
     let a : At (0x30 ∷ b) 0 (0x30 ∷ b) = record { start = omega arith; rest = refl } in
     let t = at-cons a in
-    let s = length-seen l (t .rest) in
-    let h = head-at (0x30 ∷ b) (length r) (s .n) (t .byte) (sized-length (s .sized)) (sym (at-length (s .rest))) in
-    record { r = r; n = s .n; ok = ap (λ (x : Length). x .ok) h; next = ap (λ (x : Length). x .next) h; rest = s .rest; entries = e }
+    let s = length-seen l (omega arith) (t .rest) in
+    let h = head-at (0x30 ∷ b) (length r) (s .n) (t .byte) (s .sized) (sym (at-length (s .rest))) in
+    record { form = true; r = r; n = s .n; is = h; rest = rw append-nil (s .rest); entries = e }
+head-seen {d} {ids} (indefinite {r} e) = record { form = false; r = r; n = 2; is = refl; rest = record { start = omega arith; rest = refl }; entries = e }
 
--- an encoding is well formed
-pub encodes-formed : {d ids : List ℕ} → Encodes ids d → listed d .formed ≡ true
-unfolding listed
-encodes-formed {d} {ids} e =
-    let h = head-seen e in
-    simp (h .ok, h .next, eq-eqb (walked d (h .n) (length d / 4)) (length d) (walks-enough (h .entries) (h .rest)))
+module _ {d ids : List ℕ} (e : Encodes ids d) where
+  abbrev seen : HeadSeen d ids
+  seen = head-seen e
 
--- each KeySetID is at its place of the walk
-pub encodes-place : {d ids : List ℕ} → Encodes ids d → (j : ℕ) → j < length ids → Place d (walked d (listed d .first) j) (getD ids j 0)
-unfolding listed
-encodes-place {d} {ids} e j l = let h = head-seen e in rw (h .next) (walks (h .entries) (h .rest) .place j l)
+  first-is : listed d .first ≡ seen .n
+  unfolding listed
+  first-is = ap (λ (x : Outer). x .first) (seen .is)
 
--- behind the last one the data end, and there is no entry
-pub encodes-end : {d ids : List ℕ} → Encodes ids d → walked d (listed d .first) (length ids) ≡ length d
-unfolding listed
-encodes-end {d} {ids} e = let h = head-seen e in rw (h .next) (walks (h .entries) (h .rest) .end)
+  -- an encoding is well formed
+  pub encodes-formed : listed d .formed ≡ true
+  unfolding listed
+  encodes-formed =
+      simp (seen .is, tail-ended d (seen .form) (walked d (seen .n) (length d / 4)) (walks-enough (tail (seen .form)) (tail-zero (seen .form)) (seen .entries) (seen .rest)))
 
-pub encodes-last : {d ids : List ℕ} → Encodes ids d → entryAt d (walked d (listed d .first) (length ids)) .ok ≡ false
-encodes-last {d} {ids} e = ap (λ (x : Entry). x .ok) (past-entry d (walked d (listed d .first) (length ids)) (omega (arith, encodes-end e)))
+  encodes-walks : Walks d (tail (seen .form)) (seen .n) ids
+  encodes-walks = walks (tail (seen .form)) (seen .entries) (seen .rest)
+
+  -- each KeySetID is at its place of the walk
+  pub encodes-place : (j : ℕ) → j < length ids → Place d (walked d (listed d .first) j) (getD ids j 0)
+  encodes-place j l = rw first-is (encodes-walks .place j l)
+
+  -- behind the last one there is no entry
+  pub encodes-last : entryAt d (walked d (listed d .first) (length ids)) .ok ≡ false
+  encodes-last = rw first-is (end-missing (encodes-walks .end) (tail-zero (seen .form)))
 
 -- the encoding with all lengths in the short form: at most 31 KeySetIDs, so that the list's own length is below 128
 short-are : (ids : List ℕ) → AreEntries ids (shortEntries ids)
@@ -187,7 +234,7 @@ pub encoded-encodes : (ids : List ℕ) → length ids < 32 → Encodes ids (enco
 unfolding encoded
 encoded-encodes ids h =
     let l : IsLength (4 * length ids) (shortEntries ids) (4 * length ids ∷ shortEntries ids) = short (omega arith) in
-    list {r = shortEntries ids} {b = 4 * length ids ∷ shortEntries ids} (rw (length-short ids) l) (short-are ids)
+    definite {r = shortEntries ids} {b = 4 * length ids ∷ shortEntries ids} (rw (length-short ids) l) (short-are ids)
 
 pub encoded-formed : (ids : List ℕ) → length ids < 32 → listed (encoded ids) .formed ≡ true
 encoded-formed ids h = encodes-formed (encoded-encodes ids h)
@@ -210,8 +257,8 @@ pub encoded-first : (ids : List ℕ) → length ids < 32 → listed (encoded ids
 unfolding listed encoded
 encoded-first ids h =
     let z = length-short ids in
-    let s : Sized (encoded ids) 1 (4 * length ids) 2 = short-at (omega arith) refl (omega arith) refl in
-    ap (λ (x : Length). x .next) (head-at (encoded ids) (4 * length ids) 2 refl (sized-length s) (omega arith))
+    let s : Sized (encoded ids) 1 (4 * length ids) 2 = short-at refl (omega arith) refl (omega arith) in
+    ap (λ (x : Outer). x .first) (head-at (encoded ids) (4 * length ids) 2 refl s (omega arith))
 
 pub encoded-walk : (ids : List ℕ) → length ids < 32 → (j : ℕ) → j ≤ length ids → walked (encoded ids) (listed (encoded ids) .first) j ≡ 2 + 4 * j
 unfolding encoded
@@ -247,62 +294,109 @@ encoded-bytes ids h f (suc (suc i)) = short-bytes ids f i
 byte-at : (d : List ℕ) (p : ℕ) → p < length d → drop p d ≡ getD d p 0 ∷ drop (p + 1) d
 byte-at d p h = rw (add-one, drop-cons d p 0)
 
+part-at : (d : List ℕ) (p m : ℕ) → drop p d ≡ part d p m ++ drop (p + m) d
+unfolding part
+part-at d p m = sym (take-append-drop m (drop p d)) ∙ ap (λ (x : List ℕ). take m (drop p d) ++ x) (drop-drop m p d)
+
 is-length : {d : List ℕ} {p v n : ℕ} → Sized d p v n → IsLength v (drop n d) (drop p d)
-is-length {d} {p} {v} {n} (short-at h e l q) = rw (q, byte-at d p h, e) (short l)
-is-length {d} {p} {v} {n} (long-at h e f q) =
-    let s : p + 1 + 1 ≡ p + 2 = omega arith in
-    rw (q, byte-at d p (omega arith), e, byte-at d (p + 1) h, f, s) long
+is-length {d} {p} {v} {n} (short-at e l q f) = rw (q, byte-at d p (omega arith), e) (short l)
+is-length {d} {p} {v} {n} (long-at m e z l u q f) =
+    let k : length (part d (p + 1) m) ≡ m = length-part d (p + 1) m (omega arith) in
+    let r : IsLength v (drop n d) ((0x80 + length (part d (p + 1) m)) ∷ (part d (p + 1) m ++ drop n d)) = long (part d (p + 1) m) (rw k z) (rw k l) u in
+    rw (byte-at d p (omega arith), e, part-at d (p + 1) m, ← q) (rw k at r)
 
-record Entries (b : List ℕ) : Type 0 where
+-- bytes b that are entries, and t behind them
+record Entries (t b : List ℕ) : Type 0 where
   pub ids : List ℕ
-  pub are : AreEntries ids b
+  pub front : List ℕ
+  pub are : AreEntries ids front
+  pub split : b ≡ front ++ t
 
-entry-more : (d : List ℕ) (p m : ℕ) → Seen d p m → Entries (drop (m + 2) d) → Entries (drop p d)
-entry-more d p m s e =
-    let c = s .content in
+-- a length with t behind all is one without it
+record Front (v : ℕ) (r t b : List ℕ) : Type 0 where
+  pub front : List ℕ
+  pub is : IsLength v r front
+  pub split : b ≡ front ++ t
+
+length-front : {v : ℕ} {b : List ℕ} (r t : List ℕ) → IsLength v (r ++ t) b → Front v r t b
+length-front {v} r t (short l) = record { front = v ∷ r; is = short l; split = refl }
+length-front {v} r t (long s z l u) = record { front = (0x80 + length s) ∷ (s ++ r); is = long s z l u; split = ap (λ (x : List ℕ). (0x80 + length s) ∷ x) (sym (append-assoc s r t)) }
+
+entry-more : (d t : List ℕ) (p m : ℕ) → Seen d p m → Entries t (drop (m + 2) d) → Entries t (drop p d)
+entry-more d t p m s e =
     let r = sized-reach (s .sized) in
     let o : m + 1 + 1 ≡ m + 2 = omega arith in
-    let l = rw (byte-at d m (omega arith), byte-at d (m + 1) c, o) at (is-length (s .sized)) in
+    let l = rw (byte-at d m (omega arith), byte-at d (m + 1) (omega arith), o, e .split) at (is-length (s .sized)) in
+    let f = length-front (getD d m 0 ∷ getD d (m + 1) 0 ∷ e .front) t l in
     record {
       ids = (getD d m 0 * 256 + getD d (m + 1) 0) ∷ e .ids;
-      are = rw (byte-at d p (omega arith), s .tag) (more refl l (e .are));
+      front = 4 ∷ f .front;
+      are = more refl (f .is) (e .are);
+      split = byte-at d p (omega arith) ∙ ap₂ (λ (x : ℕ) (y : List ℕ). x ∷ y) (s .tag) (f .split);
     }
 
 entries-by :
-    (d : List ℕ) (n p : ℕ) (e : Entry)
-    → ((q : ℕ) → q ≤ length d → walked d q n ≡ length d → Entries (drop q d))
+    (d t : List ℕ) (n p : ℕ) (e : Entry)
+    → ((q : ℕ) → drop (walked d q n) d ≡ t → Entries t (drop q d))
     → Case d p e
-    → p ≤ length d
-    → walked d (e .next) n ≡ length d
-    → Entries (drop p d)
-entries-by d n p e f (there m s q) h w = let c = s .content in entry-more d p m s (f (m + 2) (omega arith) (rw q at w))
-entries-by d n p e f (missing q) h w = f p h (rw q at w)
+    → drop (walked d (e .next) n) d ≡ t
+    → Entries t (drop p d)
+entries-by d t n p e f (there m s q) w = entry-more d t p m s (f (m + 2) (rw q at w))
+entries-by d t n p e f (missing q) w = f p (rw q at w)
 
-walk-entries : (d : List ℕ) (n p : ℕ) → p ≤ length d → walked d p n ≡ length d → Entries (drop p d)
+walk-entries : (d t : List ℕ) (n p : ℕ) → drop (walked d p n) d ≡ t → Entries t (drop p d)
 unfolding walked
-walk-entries d zero p h w = record { ids = []; are = rw w (rw (drop-length d) none) }
-walk-entries d (suc n) p h w = entries-by d n p (entryAt d p) (walk-entries d n) (entry-case d p) h w
+walk-entries d t zero p w = record { ids = []; front = []; are = none; split = w }
+walk-entries d t (suc n) p w = entries-by d t n p (entryAt d p) (walk-entries d t n) (entry-case d p) w
+
+-- where the entries end, the data end or the end-of-contents octets stand
+ended-tail : (d : List ℕ) (f : Bool) (p : ℕ) → ended d f p ≡ true → drop p d ≡ tail f
+unfolding ended
+ended-tail d true p t = rw (eqb-true p (length d) t) (drop-length d)
+ended-tail d false p t =
+    let h = and-eq-true-iff (eqb (p + 2) (length d)) _ .0 t in
+    let z = and-eq-true-iff (eqb (getD d p 0) 0) _ .0 (h .1) in
+    let l = eqb-true (p + 2) (length d) (h .0) in
+    let o : p + 1 + 1 ≡ length d = omega arith in
+    rw (byte-at d p (omega arith), byte-at d (p + 1) (omega arith), o, drop-length d, eqb-true (getD d p 0) 0 (z .0), eqb-true (getD d (p + 1) 0) 0 (z .1))
 
 -- well formed data are an encoding
 pub record Decoded (d : List ℕ) : Type 0 where
   pub ids : List ℕ
   pub encodes : Encodes ids d
 
-decoded-by : (d : List ℕ) (v n : ℕ) → getD d 0 0 ≡ 0x30 → Sized d 1 v n → n + v ≡ length d → Entries (drop n d) → Decoded d
-decoded-by d v n t s q e =
+definite-by : (d : List ℕ) (v n : ℕ) → getD d 0 0 ≡ 0x30 → Sized d 1 v n → n + v ≡ length d → Entries [] (drop n d) → Decoded d
+definite-by d v n t s q e =
     let r = sized-reach s in
-    let z : v ≡ length (drop n d) = rw (length-drop n d) (omega arith) in
+    let x : drop n d ≡ e .front = e .split ∙ append-nil (e .front) in
+    let z : v ≡ length (e .front) = omega (arith, sym (length-drop n d) ∙ ap length x) in
     let h : d ≡ 0x30 ∷ drop 1 d = byte-at d 0 (omega arith) ∙ ap (λ (x : ℕ). x ∷ drop 1 d) t in
-    record { ids = e .ids; encodes = subst⁻¹ (λ (x : List ℕ). Encodes (e .ids) x) h (list (rw z at (is-length s)) (e .are)) }
+    record { ids = e .ids; encodes = subst⁻¹ (λ (x : List ℕ). Encodes (e .ids) x) h (definite (rw (z, x) at (is-length s)) (e .are)) }
+
+-- a byte that is not zero is there
+there-at : (d : List ℕ) (p : ℕ) → 0 < getD d p 0 → p < length d
+there-at [] p h = omega arith
+there-at (x ∷ d) zero h = omega arith
+there-at (x ∷ d) (suc p) h = omega (arith, there-at d p h)
+
+indefinite-by : (d : List ℕ) → getD d 0 0 ≡ 0x30 → getD d 1 0 ≡ 0x80 → Entries (0 ∷ 0 ∷ []) (drop 2 d) → Decoded d
+indefinite-by d t u e =
+    let l = there-at d 1 (omega arith) in
+    let h : d ≡ 0x30 ∷ 0x80 ∷ (e .front ++ (0 ∷ 0 ∷ [])) = byte-at d 0 (omega arith) ∙ rw (t, byte-at d 1 (omega arith), u, e .split) in
+    record { ids = e .ids; encodes = subst⁻¹ (λ (x : List ℕ). Encodes (e .ids) x) h (indefinite (e .are)) }
+
+decoded-by : (d : List ℕ) (h : Outer) → HeadCase d (lengthAt d 1) h → h .ok && ended d (h .definite) (walked d (h .first) (length d / 4)) ≡ true → Decoded d
+decoded-by d h (right t o q i) f =
+    let w = ended-tail d true (walked d (lengthAt d 1 .next) (length d / 4)) (rw i at f) in
+    definite-by d (lengthAt d 1 .value) (lengthAt d 1 .next) t (length-sized d 1 o) q (walk-entries d [] (length d / 4) (lengthAt d 1 .next) w)
+decoded-by d h (open-end t u i) f =
+    let w = ended-tail d false (walked d 2 (length d / 4)) (rw i at f) in
+    indefinite-by d t u (walk-entries d (0 ∷ 0 ∷ []) (length d / 4) 2 w)
+decoded-by d h (wrong i) f = absurd (false≢true (rw i at f))
 
 pub formed-encodes : (d : List ℕ) → listed d .formed ≡ true → Decoded d
 unfolding listed
-formed-encodes d t =
-    let h = and-eq-true-iff (head d .ok) _ .0 t in
-    let r = head-right d (h .0) in
-    let s = length-sized d 1 (r .ok) in
-    let w = eqb-true (walked d (head d .next) (length d / 4)) (length d) (h .1) in
-    decoded-by d (lengthAt d 1 .value) (lengthAt d 1 .next) (r .tag) s (r .fits) (walk-entries d (length d / 4) (lengthAt d 1 .next) (sized-reach s .within) (rw (r .is) at w))
+formed-encodes d t = decoded-by d (head d) (head-case d) t
 
 -- and of one list only
 no-shorter : {d ids ids′ : List ℕ} → Encodes ids d → Encodes ids′ d → length ids < length ids′ → ⊥

@@ -1,8 +1,11 @@
 //! The list of an initial command: SEQUENCE OF OCTET STRING of size 2.
 use plaid_types::KeySetId;
 ghost use mathlib.Core.Path.{_≡_};
-ghost use Prim.Native.Nat.{_+_};
-ghost use Rattle.list.specs.Ber.{lengthAt, entryAt, head, walked, listed, noLength, noEntry};
+ghost use Prim.Native.Nat.{_+_, _*_, _-_, _≤_, min};
+ghost use lib.ListN.{length, getD};
+ghost use Rattle.octets.specs.Lists.{part};
+ghost use Rattle.list.specs.Ber.{unsigned, fitting, lengthAt, entryAt, noHead, head, walked, ended, listed, noLength, noEntry};
+ghost use Rattle.list.specs.Laws.{largest};
 
 pub struct Length {
     pub ok: bool,
@@ -20,7 +23,48 @@ fn bad_length(at: usize) -> Length
     }
 }
 
-// A length has the short form or the form 81 and one byte.
+// One byte more of a number; where that is over the largest usize, the largest.
+fn grown(v: usize, b: u8) -> usize
+    ensures { λ r. ⌜ r ≡ min (v * 256 + b) largest ⌝ }
+{
+    if v < 0x100_0000_0000_0000 {
+        return v * 256 + b as usize;
+    }
+    0xffff_ffff_ffff_ffff
+}
+
+// The number that stands from a place up to another, high byte first; where it is over the largest usize, the largest.
+fn number(d: &[u8], from: usize, end: usize) -> usize
+    requires { ⌜ (from ≤ end) × (end ≤ length (now d)) ⌝ }
+    ensures { λ r. ⌜ r ≡ min (unsigned (part (now (d .entry)) from (end - from))) largest ⌝ }
+{
+    let mut v: usize = 0;
+    let mut i = from;
+    while i < end {
+        v = grown(v, d[i]);
+        i += 1;
+    }
+    v
+}
+
+// A length whose value fits: so many bytes are there behind it.
+fn fitting(d: &[u8], at: usize, v: usize, next: usize) -> Length
+    ensures { λ r. ⌜ r ≡ fitting (now (d .entry)) at v next ⌝ }
+{
+    if d.len() < next {
+        return bad_length(at);
+    }
+    if d.len() - next < v {
+        return bad_length(at);
+    }
+    Length {
+        ok: true,
+        value: v,
+        next: next,
+    }
+}
+
+// The definite length at a place: the short form, or how many bytes follow, from 1 to 126, and those bytes.
 fn length_at(d: &[u8], at: usize) -> Length
     ensures { λ r. ⌜ r ≡ lengthAt (now (d .entry)) at ⌝ }
 {
@@ -28,25 +72,23 @@ fn length_at(d: &[u8], at: usize) -> Length
         return bad_length(at);
     }
     let b = d[at] as usize;
+    let from = at + 1;
     if b < 0x80 {
-        return Length {
-            ok: true,
-            value: b,
-            next: at + 1,
-        };
+        return fitting(d, at, b, from);
     }
-    if b != 0x81 {
+    if b <= 0x80 {
         return bad_length(at);
     }
-    let n = at + 1;
-    if d.len() <= n {
+    if 0xff <= b {
         return bad_length(at);
     }
-    Length {
-        ok: true,
-        value: d[n] as usize,
-        next: at + 2,
+    let n = b - 0x80;
+    if d.len() - from < n {
+        return bad_length(at);
     }
+    let next = from + n;
+    let v = number(d, from, next);
+    fitting(d, at, v, next)
 }
 
 pub struct Entry {
@@ -63,6 +105,15 @@ fn no_entry(at: usize) -> Entry
         id: KeySetId(0),
         next: at,
     }
+}
+
+fn id_at(d: &[u8], at: usize) -> KeySetId
+    requires { ⌜ at + 2 ≤ length (now d) ⌝ }
+    ensures { λ r. ⌜ r .0 ≡ getD (now (d .entry)) at 0 * 256 + getD (now (d .entry)) (at + 1) 0 ⌝ }
+{
+    let high = d[at];
+    let low = d[at + 1];
+    KeySetId(octets::word(high, low))
 }
 
 // The entry at a place: tag 04, length 2, KeySetID.
@@ -83,14 +134,9 @@ fn entry_at(d: &[u8], at: usize) -> Entry
         return no_entry(at);
     }
     let p = l.next;
-    if d.len() - p < 2 {
-        return no_entry(at);
-    }
-    let high = d[p];
-    let low = d[p + 1];
     Entry {
         ok: true,
-        id: KeySetId(octets::word(high, low)),
+        id: id_at(d, p),
         next: p + 2,
     }
 }
@@ -117,24 +163,52 @@ pub fn step_from(list: &[u8], at: usize) -> Entry
     Cursor { list, at }.step()
 }
 
-// Where the first entry stands: behind tag 30 and a length that says all that is left.
-fn head(d: &[u8]) -> Length
+// The outer SEQUENCE: the form of its length, and where its first entry stands.
+pub struct Outer {
+    pub ok: bool,
+    pub definite: bool,
+    pub first: usize,
+}
+
+fn no_head() -> Outer
+    ensures { λ r. ⌜ r ≡ noHead ⌝ }
+{
+    Outer {
+        ok: false,
+        definite: true,
+        first: 0,
+    }
+}
+
+// Tag 30, and a length that says all that is left, or the indefinite form.
+fn head(d: &[u8]) -> Outer
     ensures { λ r. ⌜ r ≡ head (now (d .entry)) ⌝ }
 {
-    if d.len() == 0 {
-        return bad_length(0);
+    if d.len() < 2 {
+        return no_head();
     }
     if d[0] != 0x30 {
-        return bad_length(0);
+        return no_head();
+    }
+    if d[1] == 0x80 {
+        return Outer {
+            ok: true,
+            definite: false,
+            first: 2,
+        };
     }
     let l = length_at(d, 1);
     if !l.ok {
-        return bad_length(0);
+        return no_head();
     }
     if d.len() - l.next != l.value {
-        return bad_length(0);
+        return no_head();
     }
-    l
+    Outer {
+        ok: true,
+        definite: true,
+        first: l.next,
+    }
 }
 
 // Where n entries from a place on end; an entry that is not one is not passed.
@@ -151,6 +225,25 @@ fn walk(d: &[u8], at: usize, n: usize) -> usize
     p
 }
 
+// Whether the entries end at a place: with the data, or with two zero bytes and then the data.
+fn ended(d: &[u8], definite: bool, at: usize) -> bool
+    ensures { λ r. ⌜ r ≡ ended (now (d .entry)) definite at ⌝ }
+{
+    if definite {
+        return at == d.len();
+    }
+    if d.len() < 2 {
+        return false;
+    }
+    if d.len() - 2 != at {
+        return false;
+    }
+    if d[at] != 0 {
+        return false;
+    }
+    d[at + 1] == 0
+}
+
 pub struct Listed {
     pub formed: bool,
     pub first: usize,
@@ -160,11 +253,11 @@ pub fn parse(d: &[u8]) -> Listed
     ensures { λ r. ⌜ r ≡ listed (now (d .entry)) ⌝ }
 {
     let h = head(d);
-    let first = h.next;
+    let first = h.first;
     let e = walk(d, first, d.len() / 4);
     if h.ok {
         return Listed {
-            formed: e == d.len(),
+            formed: ended(d, h.definite, e),
             first: first,
         };
     }

@@ -1,0 +1,71 @@
+-- `list::ended` meets its contract: each return is one case of `ended`, told by the tests that led there. Assumes nothing.
+use Prim.Native.Nat.{_+_}
+use native.Mathlib.Omega.{arith}
+use borrow.Author.Tests.{eq-eqb, ne-eqb}
+use lib.ListN.{length, getD}
+use Rattle.list.specs.Ber.{ended}
+use borrow.Author.Needs.{needs}
+use Rattle.list.proofs.ended.Statement.{statement}
+use Rattle.list.proofs.ended.Tie as tie
+
+returns : tie.Need-returns
+unfolding ended
+returns c = simp (c .if1 .taken)
+
+returns-2 : tie.Need-returns-2
+unfolding ended
+returns-2 c =
+    let a = c .before .before .args in
+    simp (c .before .if1 .left, ne-eqb (a .at + 2) (length (a .d .now)) (λ e. omega arith))
+
+sub-if3 : tie.Need-sub-if3
+sub-if3 c = search needs
+
+returns-3 : tie.Need-returns-3
+unfolding ended
+returns-3 c =
+    let a = c .before .before .before .args in
+    simp (c .before .before .if1 .left, ne-eqb (a .at + 2) (length (a .d .now)) (λ e. c .if3 .taken (omega arith)))
+
+shared-slice-read-if4 : tie.Need-shared-slice-read-if4
+shared-slice-read-if4 c = search needs
+
+returns-4 : tie.Need-returns-4
+unfolding ended
+returns-4 c =
+    let a = c .before .before .before .before .before .args in
+    simp (
+      c .before .before .before .before .if1 .left,
+      eq-eqb (a .at + 2) (length (a .d .now)) (omega arith),
+      ne-eqb (getD (a .d .now) (a .at) 0) 0 (c .if4 .taken),
+    )
+
+add-result : tie.Need-add-result
+add-result c = search needs
+
+shared-slice-read-result : tie.Need-shared-slice-read-result
+shared-slice-read-result c = search needs
+
+returns-5 : tie.Need-returns-5
+unfolding ended
+returns-5 c =
+    let a = c .before .before .before .before .before .before .args in
+    simp (
+      c .before .before .before .before .before .if1 .left,
+      eq-eqb (a .at + 2) (length (a .d .now)) (omega arith),
+      eq-eqb (getD (a .d .now) (a .at) 0) 0 (c .before .if4 .left),
+    )
+
+pub ended-spec : {M : Type 1} → statement M
+ended-spec =
+    tie.close
+    (tie.spec
+    returns
+    returns-2
+    sub-if3
+    returns-3
+    shared-slice-read-if4
+    returns-4
+    add-result
+    shared-slice-read-result
+    returns-5)
