@@ -83,6 +83,8 @@ session_lines() {
     done
     command=$(of 'IA command')
     echo "list ids=${ids#,} out=100 => number=0 length=$((${#command} / 2)) command=$command"
+    # The list as another maker's reader writes it, if the session has it so.
+    [ -z "$(of 'IA command, other lengths')" ] || command=$(of 'IA command, other lengths')
     echo "call command=$command fresh=$(fresh "$(of RND1)" "$(of PS)") out=256 => number=0 status=36864 length=256 handle=$ia" \
         "answer=$(of EM) session=$(decimal "$(of KeySetID)"):$(of RND1)"
     echo "open ids=${ids#,} blocks=$blocks => number=0 place=$(place "$list" "$(of KeySetID)") id=$(decimal "$(of KeySetID)")" \

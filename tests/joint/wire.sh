@@ -39,9 +39,24 @@ list_lines() {
     opened "list: short form" 300404020001
     opened "list: outer length 81" 30810404020001
     opened "list: an entry's length 81" 30050481020001
-    silent "list: outer length 82" 3082000404020001
-    silent "list: indefinite form" 3080040200010000
-    silent "list: an entry's length 82" 3006048200020001
+    opened "list: outer length 82" 3082000404020001
+    opened "list: an entry's length 82" 3006048200020001
+    opened "list: outer length FE" "30fe$(zeros 250)0404020001"
+    opened "list: an entry's length FE" "30818204fe$(zeros 250)020001"
+    opened "list: indefinite form" 3080040200010000
+    opened "list: indefinite form, an entry's length 82" 30800482000200010000
+    silent "list: outer length FF" "30ff$(zeros 252)0404020001"
+    silent "list: an entry's length FF" "30818304ff$(zeros 252)020001"
+    silent "list: outer length 82 01 04" 3082010404020001
+    silent "list: outer length 2^64 + 4" "308901$(zeros 14)0404020001"
+    silent "list: an entry's length 2^64 + 2" "300d048901$(zeros 14)020001"
+    silent "list: an entry in the indefinite form" 3006048000010000
+    silent "list: indefinite form, an entry in it too" 30800480000100000000
+    silent "list: indefinite form, no 00 00" 308004020001
+    silent "list: indefinite form, one 00" 30800402000100
+    silent "list: indefinite form, bytes behind 00 00" 308004020001000000
+    silent "list: 00 00 behind a definite length" 3004040200010000
+    silent "list: 00 00 within a definite length" 3006040200010000
     silent "list: constructed OCTET STRING" 3006240404020001
     silent "list: a set of three bytes" 30050403000001
     silent "list: empty" 3000

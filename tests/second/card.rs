@@ -1,4 +1,4 @@
-//! The card of document 01, with T-01: records of several lengths on one card.
+//! The card of document 01, with T-01: records of several lengths on one card; and T-02: lists with every length of BER but FF.
 
 use crate::aes::{self, Block};
 use crate::fault::Fault;
@@ -150,26 +150,75 @@ fn frame_fault(command: &[u8]) -> Option<(u16, &'static str)> {
     }
 }
 
-/// One element: its tag, a length of the short form or of the form 81 and one byte, so many bytes; and what stands behind it.
-fn element(tag: u8, data: &[u8]) -> Option<(&[u8], &[u8])> {
-    let (length, rest) = match data {
-        [found, short @ 0..=0x7f, rest @ ..] if *found == tag => (*short, rest),
-        [found, 0x81, length, rest @ ..] if *found == tag => (*length, rest),
-        _ => return None,
+/// A definite length: the short form, or 81 to FE and so many bytes, high byte first. Gives its bytes, and what stands behind it.
+fn definite(data: &[u8], fault: Fault) -> Option<(&[u8], &[u8])> {
+    match data {
+        [0..=0x7f, ..] => data.split_at_checked(1),
+        [0x80, ..] | [] => None,
+        [0xff, ..] if fault != Fault::FfTaken => None,
+        [first, rest @ ..] => rest.split_at_checked(usize::from(first - 0x80)),
+    }
+}
+
+/// Whether length bytes say this value. They are compared as bytes without leading zeros, so that no number is too large.
+fn says(length: &[u8], value: usize, fault: Fault) -> bool {
+    let looked_at = match fault {
+        Fault::LastLengthByteAlone => 1,
+        Fault::LengthModulo2To64 => 8,
+        _ => length.len(),
     };
-    rest.split_at_checked(usize::from(length))
+    let length = &length[length.len().saturating_sub(looked_at)..];
+    let length = if fault == Fault::LeadingZerosRefused { length } else { without_zeros(length) };
+    length == without_zeros(&value.to_be_bytes())
+}
+
+fn without_zeros(number: &[u8]) -> &[u8] {
+    let zeros = number.iter().take_while(|b| **b == 0).count();
+    &number[zeros..]
+}
+
+/// An entry at the start of the data, tag 04, length 2, KeySetID; and what stands behind it.
+fn entry(data: &[u8], fault: Fault) -> Option<(u16, &[u8])> {
+    if let ([0x04, 0x80, high, low, 0, 0, rest @ ..], Fault::IndefiniteEntryTaken) = (data, fault) {
+        return Some((u16::from_be_bytes([*high, *low]), rest));
+    }
+    let (length, rest) = definite(data.strip_prefix(&[0x04])?, fault)?;
+    let (id, rest) = rest.split_first_chunk()?;
+    if says(length, 2, fault) { Some((u16::from_be_bytes(*id), rest)) } else { None }
+}
+
+/// Whether the entries may end before these bytes: 00 00 and no more in the indefinite form, else none.
+fn ended(indefinite: bool, left: &[u8], fault: Fault) -> bool {
+    match (indefinite, fault) {
+        (false, _) => left.is_empty(),
+        (true, Fault::BytesBehindZerosTaken) => left.starts_with(&[0, 0]),
+        (true, Fault::ZerosNotWanted) => left == [0, 0] || left.is_empty(),
+        (true, _) => left == [0, 0],
+    }
 }
 
 /// The KeySetIDs of a SEQUENCE OF OCTET STRING of size 2, `None` for a malformed list.
-pub fn listed_ids(data: &[u8]) -> Option<Vec<u16>> {
-    let (mut entries, left_over) = element(0x30, data)?;
+pub fn listed_ids(data: &[u8], fault: Fault) -> Option<Vec<u16>> {
+    let data = data.strip_prefix(&[0x30])?;
+    let indefinite = data.first() == Some(&0x80);
+    let (length, mut left) = if indefinite { data.split_at(1) } else { definite(data, fault)? };
+    let fits = indefinite || says(length, left.len(), fault);
     let mut ids = Vec::new();
-    while !entries.is_empty() {
-        let (id, rest) = element(0x04, entries)?;
-        ids.push(u16::from_be_bytes(id.try_into().ok()?));
-        entries = rest;
+    while let Some((id, rest)) = entry(left, fault) {
+        ids.push(id);
+        left = rest;
     }
-    if left_over.is_empty() { Some(ids) } else { None }
+    if fits && ended(indefinite, left, fault) { Some(ids) } else { None }
+}
+
+/// The forms of a good list, for the statistics. In short forms each entry takes four bytes.
+fn accepted_list(data: &[u8], entries: usize) -> &'static str {
+    match (data[1] == 0x80, data.len() - 4 * entries) {
+        (true, 4) => "initial accepted, indefinite form",
+        (true, _) => "initial accepted, indefinite form with a long length",
+        (false, 2) => "initial accepted, short lengths",
+        (false, _) => "initial accepted, a long length",
+    }
 }
 
 /// Compares exactly floor(Lc/4) places with all eight slots. Gives the slot of the first entry that the card holds.
@@ -192,16 +241,17 @@ fn walk(card: &Card, ids: &[u16], places: usize, work: &mut Work, fault: Fault) 
 
 fn initial(card: &mut Card, data: &[u8], fresh: &[u8], out: &mut [u8], fault: Fault) -> Answer {
     let mut work = Work::default();
-    let list = listed_ids(data);
+    let list = listed_ids(data, fault);
     let why = if list.is_none() { "initial refused: malformed" } else { "initial refused: no match" };
-    let winner = walk(card, &list.unwrap_or_default(), data.len() / 4, &mut work, fault);
+    let ids = list.unwrap_or_default();
+    let winner = walk(card, &ids, data.len() / 4, &mut work, fault);
     let mut last = fresh[..50].to_vec();
     let (mut handle, mut why) = (card.given.shill_handle, why);
     card.session = winner.map(|slot| {
         let set = &card.given.sets[slot];
         let rnd1: Block = fresh[..16].try_into().unwrap();
         last = [&set.id.to_be_bytes()[..], &card.given.div_data, &rnd1, &rnd1].concat();
-        (handle, why) = (set.handle, "initial accepted");
+        (handle, why) = (set.handle, accepted_list(data, ids.len()));
         Session { id: set.id, rnd1 }
     });
     let block = [&[0, 2], &fresh[50..], &[0], &last].concat();

@@ -1,4 +1,4 @@
-//! Writes the joint test, docs/JOINT-TEST.txt, to standard output: three sessions and what a stranger gets, all inputs fixed, every value
+//! Writes the joint test, docs/JOINT-TEST.txt, to standard output: four sessions and what a stranger gets, all inputs fixed, every value
 //! under the standard's name for it. The values are made by the standard's formulas, step by step; each message then has to be the one
 //! that the second implementation's card or reader makes. Needs rustc alone: `rustc --edition 2024 -O tests/second/joint.rs`.
 
@@ -31,7 +31,7 @@ use page::Page;
 const HEAD: &str = "\
 # PLAID (ISO/IEC 25185-1:2016): a joint test for two makers
 #
-# Three sessions between a reader and a card, and what a stranger gets from the
+# Four sessions between a reader and a card, and what a stranger gets from the
 # card. Give your card or reader the inputs; every other value has to come out.
 # Written by a program that follows documents 01 and 02 (tests/second/joint.rs);
 # no value comes from ISO, whose vectors (annex A) are in a file not at hand.
@@ -43,6 +43,10 @@ const HEAD: &str = "\
 #
 # Where the standard is open, this is what the test takes:
 #   - a command is CLA INS P1 P2 Lc data Le, with Le 00
+#   - the reader writes its list with lengths of the short form alone. The card
+#     takes every definite length that fits, 81 to FE with leading zero bytes
+#     too, but not the first byte FF; and 80, the indefinite form, for the
+#     SEQUENCE, not for an entry
 #   - padding method 2 is always added, also to a text of whole blocks
 #   - STR3 padded has B blocks for every ACSRecord of a card, as many as the
 #     longest needs. The Payload of STR3 is zero bytes that bring ACSRecord to

@@ -1,11 +1,11 @@
-//! How often each outcome that document 01 names came up, so that the generator cannot become weak unseen.
+//! How often each outcome that documents 01 and 02 name came up, so that the generator cannot become weak unseen.
 
 use std::collections::{BTreeMap, BTreeSet};
 
 use crate::side::Reply;
 
 /// The outcomes that have to come up: for each kind of call and number or status, the rules that decide.
-const REQUIRED: [(&str, &[&str]); 40] = [
+const REQUIRED: [(&str, &[&str]); 41] = [
     ("load 0", LOADED),
     ("load 1", &["no key set", "over 8 key sets"]),
     ("load 2", &["repeated KeySetID"]),
@@ -20,7 +20,8 @@ const REQUIRED: [(&str, &[&str]); 40] = [
     ("call 6e00", &["CLA"]),
     ("call 6d00", &["INS"]),
     ("call 6a86", &["P1 P2"]),
-    ("call 9000, 256 bytes", &["initial accepted", "initial refused: malformed", "initial refused: no match"]),
+    ("call 9000, 256 bytes", LISTED),
+    ("call 9000, 256 bytes", &["initial refused: malformed", "initial refused: no match"]),
     ("call 9000, 32 bytes", FINAL),
     ("call 9000, 48 bytes", FINAL),
     ("call 9000, 64 bytes", FINAL),
@@ -55,6 +56,14 @@ const LOADED: &[&str] = &[
     "loaded, largest B first and last",
     "loaded, largest B last",
     "loaded, largest B between",
+];
+
+/// Of an accepted initial command: the lengths in its list.
+const LISTED: &[&str] = &[
+    "initial accepted, short lengths",
+    "initial accepted, a long length",
+    "initial accepted, indefinite form",
+    "initial accepted, indefinite form with a long length",
 ];
 
 /// Of a final command, for each B. `alone`: all other conditions held.

@@ -1,6 +1,7 @@
 //! Makes a list of lines that shows a difference as small as it gets: fewer lines, then simpler arguments.
 
 use crate::card::listed_ids;
+use crate::fault::Fault;
 use crate::line::{Field, Line};
 use crate::reader::{framed, id_list};
 
@@ -148,7 +149,7 @@ fn with_data(command: &mut Vec<u8>, shorten: impl FnOnce(&mut Vec<u8>)) {
 }
 
 fn without_id(data: &mut Vec<u8>, listed: usize) {
-    let mut ids = listed_ids(data).unwrap_or_default();
+    let mut ids = listed_ids(data, Fault::None).unwrap_or_default();
     if listed < ids.len() {
         ids.remove(listed);
         *data = id_list(&ids);

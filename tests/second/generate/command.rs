@@ -82,32 +82,98 @@ fn initial(random: &mut Random, card: &Card) -> Vec<u8> {
     if count > 0 && random.percent(4) {
         entries[random.below(count)].resize(random.pick(&[0, 1, 3, 4]), 0);
     }
-    let mut data = ber(random, &entries);
-    if random.percent(25) {
+    let mut data = if random.percent(12) { wrong_sequence(random, &entries) } else { sequence(random, &entries) };
+    if random.percent(20) {
         spoil_list(random, &mut data);
     }
     data.truncate(255);
     framed(0x87, &data)
 }
 
-/// A length in one of these forms: 0 for the short one, 1 for 81 and one byte, 2 for 82 and two, which the card does not take.
-fn ber_length(random: &mut Random, length: usize, forms: &[u8]) -> Vec<u8> {
-    match random.pick(forms) {
-        2 => vec![0x82, 0, length as u8],
-        form if form == 1 || length > 127 => vec![0x81, length as u8],
-        _ => vec![length as u8],
+/// The numbers of length bytes behind the first one in a list's lengths; 0 is the short form.
+const FORMS: [&[usize]; 12] = [
+    &[0],
+    &[0],
+    &[0],
+    &[0],
+    &[0, 0, 0, 1],
+    &[0, 1],
+    &[1],
+    &[2],
+    &[0, 1, 2, 3, 4],
+    &[0, 7, 8, 9],
+    &[0, 0, 0, 0, 0, 20, 60],
+    &[0, 0, 125, 126],
+];
+
+/// A length below 256 in the short form, or with so many bytes behind the first one, zero bytes before its own. 127 of them make FF.
+fn ber_length(length: usize, count: usize) -> Vec<u8> {
+    let count = if length > 127 { count.max(1) } else { count };
+    let mut bytes = vec![0; count + 1];
+    bytes[0] = 0x80 + count as u8;
+    bytes[count] = length as u8;
+    bytes
+}
+
+/// A length that the card must not take for this one: FF, or a value that is too large by a multiple of 2^8, 2^16, 2^32, 2^64 or more.
+fn wrong_length(random: &mut Random, length: usize) -> Vec<u8> {
+    let count = random.pick(&[2, 3, 5, 9, 9, 10, 126, 127, 127]);
+    let mut bytes = ber_length(length, count);
+    if count < 127 {
+        bytes[1] = random.pick(&[1, 2, 0x80, 0xff]);
+    }
+    bytes
+}
+
+/// An entry in the indefinite form, with its own 00 00 or without, or with a wrong length.
+fn wrong_entry(random: &mut Random, entry: &[u8]) -> Vec<u8> {
+    match random.below(5) {
+        0 => [&[0x04, 0x80], entry].concat(),
+        1 => [&[0x04, 0x80], entry, &[0, 0]].concat(),
+        2 => [&[random.pick(&[0x04, 0x24]), 0x80, 0x04, 2], entry, &[0, 0]].concat(),
+        _ => [&[0x04], &wrong_length(random, entry.len())[..], entry].concat(),
     }
 }
 
-fn ber(random: &mut Random, entries: &[Vec<u8>]) -> Vec<u8> {
-    let forms: &[u8] = random.pick(&[&[0], &[0], &[0], &[0, 0, 0, 1], &[0, 1], &[1], &[0, 0, 0, 0, 0, 2]]);
+/// As many of the entries as there is room for, with lengths of these forms; sometimes one of the first is wrong.
+fn content(random: &mut Random, entries: &[Vec<u8>], forms: &[usize], room: usize) -> Vec<u8> {
+    let wrong = if random.percent(10) { random.below(entries.len().clamp(1, 4)) } else { entries.len() };
     let mut content = Vec::new();
-    for entry in entries {
-        content.push(0x04);
-        content.extend(ber_length(random, entry.len(), forms));
-        content.extend(entry);
+    for (place, entry) in entries.iter().enumerate() {
+        let right = [&[0x04], &ber_length(entry.len(), random.pick(forms))[..], entry].concat();
+        let element = if place == wrong { wrong_entry(random, entry) } else { right };
+        if content.len() + element.len() <= room {
+            content.extend(element);
+        }
     }
-    [vec![0x30], ber_length(random, content.len(), forms), content].concat()
+    content
+}
+
+/// The list with a definite length, or in the indefinite form.
+fn sequence(random: &mut Random, entries: &[Vec<u8>]) -> Vec<u8> {
+    let forms = random.pick(&FORMS);
+    if random.percent(20) {
+        return [&[0x30, 0x80], &content(random, entries, forms, 251)[..], &[0, 0]].concat();
+    }
+    let count = random.pick(forms);
+    let content = content(random, entries, forms, 253 - count.max(1));
+    [&[0x30], &ber_length(content.len(), count)[..], &content].concat()
+}
+
+/// The list with a wrong length or a wrong end: bytes behind 00 00, one zero byte or none, 00 00 behind a definite length.
+fn wrong_sequence(random: &mut Random, entries: &[Vec<u8>]) -> Vec<u8> {
+    let forms = random.pick(&FORMS);
+    let content = content(random, entries, forms, 125);
+    let (length, longer) = (content.len() as u8, content.len() as u8 + 2);
+    match random.below(8) {
+        0 => [&[0x30, 0x80], &content[..], &[0, 0], &random.some_bytes(1, 4)].concat(),
+        1 => [&[0x30, 0x80], &content[..], &[0, 0], &content].concat(),
+        2 => [&[0x30, 0x80], &content[..], &[0]].concat(),
+        3 => [&[0x30, 0x80], &content[..]].concat(),
+        4 => [&[0x30, length], &content[..], &[0, 0]].concat(),
+        5 => [&[0x30, longer], &content[..], &[0, 0]].concat(),
+        _ => [&[0x30], &wrong_length(random, content.len())[..], &content].concat(),
+    }
 }
 
 /// Wrong tags, lengths and forms, in the list or in one of its entries; bytes left over or missing.

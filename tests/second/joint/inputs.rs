@@ -18,6 +18,8 @@ const WIEGAND: [u8; 4] = [0x02, 0x2a, 0x00, 0xdc];
 pub struct Session {
     pub title: &'static str,
     pub list: Vec<u16>,
+    /// The list as another maker's reader writes it, where the card gets it so.
+    pub other: Option<Vec<u8>>,
     pub rnd1: Block,
     pub ps: Vec<u8>,
     pub mode: u16,
@@ -38,7 +40,7 @@ pub struct Stranger {
 pub struct Inputs {
     pub load: Given,
     pub keys: Vec<(String, Vec<u8>)>,
-    pub sessions: [Session; 3],
+    pub sessions: [Session; 4],
     pub stranger: Stranger,
 }
 
@@ -88,6 +90,7 @@ impl Inputs {
         let uuid = Session {
             title: "A UUID of 16 bytes, no Payload.",
             list: vec![1],
+            other: None,
             rnd1: block(0x30),
             ps: up(0x01, 203),
             mode: 1,
@@ -97,6 +100,7 @@ impl Inputs {
         let payload = Session {
             title: "A Payload that makes STR2 whole blocks; of three sets the second wins.",
             list: vec![2, 4, 1],
+            other: None,
             rnd1: block(0x50),
             ps: up(0x35, 203).into_iter().rev().collect(),
             mode: 3,
@@ -106,11 +110,22 @@ impl Inputs {
         let wiegand = Session {
             title: "A Wiegand number of 4 bytes: 12 zero bytes follow it.",
             list: vec![4],
+            other: None,
             rnd1: block(0x20),
             ps: up(0x1b, 203),
             mode: 2,
             payload: Vec::new(),
             rnd2: block(0xe0),
+        };
+        let other = Session {
+            title: "A list as another maker's reader writes it.",
+            list: vec![3, 1],
+            other: Some(vec![0x30, 0x80, 0x04, 0x82, 0, 2, 0, 3, 0x04, 0x81, 2, 0, 1, 0, 0]),
+            rnd1: block(0x90),
+            ps: up(0x28, 203),
+            mode: 1,
+            payload: Vec::new(),
+            rnd2: block(0xf0),
         };
         let stranger = Stranger {
             list: vec![0x30, 4, 0x04, 2, 0, 5],
@@ -120,7 +135,7 @@ impl Inputs {
             data: up(0x80, 48),
             random3: up(0xd0, 48),
         };
-        Inputs { load: load(), keys: keys(), sessions: [uuid, payload, wiegand], stranger }
+        Inputs { load: load(), keys: keys(), sessions: [uuid, payload, wiegand, other], stranger }
     }
 
     /// A number of an RSA key.

@@ -34,14 +34,23 @@ fn reply_size(inputs: &Inputs) -> usize {
     inputs.load.modes.iter().map(|mode| needed(mode.id)).max().unwrap()
 }
 
-/// Steps 1 to 4.
-fn initial(page: &mut Page, inputs: &Inputs, of: &Session, agreed: &mut Agreed) {
+/// Step 1. Gives the command that the card gets.
+fn list(page: &mut Page, of: &Session) -> Vec<u8> {
     page.note("Step 1 (6.1): the reader sends its list in BER-TLV.");
     page.input("KeySetID list", &of.list.iter().flat_map(|id| id.to_be_bytes()).collect::<Vec<_>>());
     let command = framed(0x87, &id_list(&of.list));
     page.value("IA command", "00 87 00 00 Lc 30 length (04 02 KeySetID)* 00", &command);
     Agreed::lists(&of.list, &command);
+    let Some(other) = &of.other else { return command };
+    page.note("The same list in the indefinite form, its entries in long forms: the card gets\n# this in place of the command above.");
+    let command = framed(0x87, other);
+    page.input("IA command, other lengths", &command);
+    command
+}
 
+/// Steps 1 to 4.
+fn initial(page: &mut Page, inputs: &Inputs, of: &Session, agreed: &mut Agreed) {
+    let command = list(page, of);
     page.note("Steps 2 and 3 (6.2, 6.3): the first listed set that the card holds.");
     let set = chosen(inputs, &of.list);
     page.value("KeySetID", "", &set.id.to_be_bytes());
