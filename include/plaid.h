@@ -400,15 +400,24 @@ typedef struct plaid_outcome {
  * A command is CLA 00, INS 87 or 86, P1 P2 0000, Lc from 1 to 255, Lc data
  * bytes, Le 00: Lc + 6 bytes in all.
  *
- * Initial command (INS 87). The data is a list of KeySetIDs in BER, as
- * plaid_list writes it; the first one that the card holds wins.
- *   The bytes: 30, the length of all that follows, and for each KeySetID 04 02
- *   and its two bytes. Sets 0001 and 0102 are 30 08 04 02 00 01 04 02 01 02,
- *   the command 00 87 00 00 0A, these ten, 00. A length is one byte under 80,
- *   or 81 and one byte. Nothing may follow.
- *   A wrong tag, a wrong length or another form of length is no error: it is
- *   answered with 256 bytes and 9000, like everything else. Where sessions
- *   end with 15 for no reason that can be seen, look at these bytes first.
+ * Initial command (INS 87). The data is a list of KeySetIDs in BER (ITU-T
+ * X.690); the first one that the card holds wins.
+ *   The bytes: 30, the length of all that follows, and for each KeySetID 04,
+ *   its length 2, and its two bytes. Sets 0001 and 0102, as plaid_list writes
+ *   them, are 30 08 04 02 00 01 04 02 01 02, the command 00 87 00 00 0A, these
+ *   ten, 00.
+ *   A length, the list's or an entry's, is one byte from 00 to 7F; or a byte
+ *   from 81 to FE, which is 80 plus how many bytes follow, and these, high byte
+ *   first. Leading zeros are allowed: 30 82 00 08 is 30 08, 04 82 00 02 is
+ *   04 02. No value wraps: 2^64 + 8 in nine bytes is not 8.
+ *   The list alone may have the indefinite form: 30 80, the entries, 00 00.
+ *   Anything else is malformed: another tag; a length of the list that is not
+ *   what follows it, or of an entry that is not 2; the length byte FF; 80 at an
+ *   entry; too few bytes; 30 80 without 00 00; bytes behind the list's end,
+ *   00 00 behind a definite length too.
+ *   A malformed list is no error: it is refused like one with no set in common,
+ *   with 256 bytes and 9000. Where sessions end with 15 for no reason that can
+ *   be seen, look at these bytes first.
  *   length 256, status 9000, and in the output a block to encrypt under
  *   `handle`: 00 02, the pad bytes, 00, and 50 bytes.
  *   accepted: those are KeySetID, DivData, RND1 and RND1 again, where RND1 is
@@ -416,7 +425,7 @@ typedef struct plaid_outcome {
  *       opens, and replaces any other.
  *   refused (no set in common, or a malformed list): those are the first 50
  *       fresh bytes. The handle is the shill handle. No session is open.
- *   counts: 8 floor(Lc / 4) comparisons, the rest 0.
+ *   counts: 8 floor(Lc / 4) comparisons, whatever the list's form; the rest 0.
  *
  * Final command (INS 86). The data is STR2 as plaid_seal writes it.
  *   length 16 B, status 9000, handle 0: nothing to encrypt, the output is sent
@@ -477,7 +486,9 @@ typedef struct plaid_written {
 /*
  * List: makes the initial command for 1 to 16 KeySetIDs.
  *
- * Back: number 0 and the command's length, 4 count + 8: from 12 to 72.
+ * Back: number 0 and the command's length, 4 count + 8: from 12 to 72. Each
+ * length in the list is one byte. The other forms that plaid_command takes are
+ * never written.
  *
  * Declines, in the order in which they are tested:
  *   11  count is 0, or over 16

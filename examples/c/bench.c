@@ -26,8 +26,45 @@ static long exchange(void *line, const uint8_t *command, size_t command_len, uin
         return -1;
     x->answer_len = length - 2;
     x->as_other_card = others.length == length && memcmp(x->reply.bytes, others.bytes, length) == 0;
+    x->in_session = b->card.session.opened;
     memcpy(answer, x->reply.bytes, length);
     return (long)length;
+}
+
+/*
+ * The initial command as another maker's reader may write it: a list without a length, which ends with 00 00, and in its last entry the
+ * length 2 in two bytes. plaid_list never writes these forms. Returns how long the command is.
+ */
+static size_t write_other_list(const plaid_key_set *sets, size_t count, uint8_t command[PLAID_COMMAND_MOST])
+{
+    static const uint8_t head[] = {0x00, PLAID_INS_INITIAL, 0x00, 0x00, 0x00, 0x30, 0x80};
+    size_t at = sizeof head;
+    memcpy(command, head, sizeof head);
+    for (size_t i = 0; i < count; i++) {
+        command[at++] = 0x04;
+        if (i + 1 == count) {
+            command[at++] = 0x82;
+            command[at++] = 0x00;
+        }
+        command[at++] = 0x02;
+        command[at++] = (uint8_t)(sets[i].id.value >> 8);
+        command[at++] = (uint8_t)sets[i].id.value;
+    }
+    command[at++] = 0x00;
+    command[at++] = 0x00;
+    command[4] = (uint8_t)(at - 5); /* Lc */
+    command[at++] = 0x00;           /* Le */
+    return at;
+}
+
+/* The line with that list in the place of our reader's. The rest goes over it as it is. */
+static long other_exchange(void *line, const uint8_t *command, size_t command_len, uint8_t *answer, size_t answer_room)
+{
+    const bench *b = line;
+    uint8_t other[PLAID_COMMAND_MOST];
+    if (command[1] != PLAID_INS_INITIAL)
+        return exchange(line, command, command_len, answer, answer_room);
+    return exchange(line, other, write_other_list(b->sets, b->plan.set_count, other), answer, answer_room);
 }
 
 /* Where the reader has stopped, the bench sends a final command of its own, of the usual length and with random data. */
@@ -81,17 +118,37 @@ bool bench_keys(void)
     return ok;
 }
 
-bool bench_run(bench *b, const example_mode *mode, bench_fault fault)
+/* Cards and reader before a session. */
+static bool prepare(bench *b, const example_mode *mode, bench_fault fault)
 {
     memset(b, 0, sizeof *b);
     b->fault = fault;
     if (!load_cards(b))
         return false;
     prepare_reader(b, mode);
+    return true;
+}
+
+static bool run(bench *b)
+{
     b->number = reader_run(&b->plan, &b->session);
     if (b->exchanges == 1 && b->number == PLAID_DECLINE_NONE_OPENS && !send_random_final(b))
         return false;
     return b->number < READER_NO_KEY;
+}
+
+bool bench_run(bench *b, const example_mode *mode, bench_fault fault)
+{
+    return prepare(b, mode, fault) && run(b);
+}
+
+bool bench_run_other_list(bench *b, const example_mode *mode)
+{
+    static const bench_fault none;
+    if (!prepare(b, mode, none))
+        return false;
+    b->plan.exchange = other_exchange;
+    return run(b);
 }
 
 void bench_forget(bench *b)

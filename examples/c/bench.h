@@ -16,6 +16,7 @@ typedef struct {
     card_reply reply;
     size_t answer_len;  /* without the status */
     bool as_other_card; /* the other card sent the same bytes */
+    bool in_session;    /* the card has an open session behind it */
 } bench_exchange;
 
 /* How a session goes wrong; with nothing set it does not. */
@@ -43,6 +44,9 @@ bool bench_keys(void);
 
 /* Runs a session for a mode. False where a load was declined or the platform failed. */
 bool bench_run(bench *b, const example_mode *mode, bench_fault fault);
+
+/* The same with nothing wrong, and the list of another maker's reader in the place of ours: the same KeySetIDs, other forms of length. */
+bool bench_run_other_list(bench *b, const example_mode *mode);
 
 /* Erases it. */
 void bench_forget(bench *b);

@@ -1,6 +1,7 @@
 /*
- * Sessions to watch: a card and a reader on the bench, for each of the card's two records, each message with its fields in words; then one
- * refused session of each kind, as a stranger sees it and as the key holder sees it. Exit status 1 where something was not as expected.
+ * Sessions to watch: a card and a reader on the bench, for each of the card's two records, each message with its fields in words; one that
+ * another maker's list opens; then one refused session of each kind, as a stranger sees it and as the key holder sees it. Exit status 1
+ * where something was not as expected.
  *
  *   watch [KEYS]      KEYS: the folder of RSA keys; none: the stand-in, which the output names
  */
@@ -65,18 +66,36 @@ static void show_command(const bench_exchange *x, const char *name)
     show_field("Lc", x->command + 4, 1, note);
 }
 
+/* How many bytes a tag and its length have. 80 has none behind it. */
+static size_t head_length(const uint8_t *at)
+{
+    return at[1] > 0x80 ? 2 + at[1] - 0x80u : 2;
+}
+
+/* The list, which is well formed, in whatever form its lengths are. */
+static void show_list(const bench *b, const uint8_t *at)
+{
+    bool indefinite = at[1] == 0x80;
+    char note[64];
+    snprintf(note, sizeof note, "a list of %zu entries%s", b->plan.set_count, indefinite ? ", up to 00 00: indefinite form" : "");
+    show_field("data", at, head_length(at), note);
+    at += head_length(at);
+    for (size_t i = 0; i < b->plan.set_count; i++) {
+        size_t head = head_length(at);
+        snprintf(note, sizeof note, "KeySetID %04X%s", b->sets[i].id.value, head > 2 ? ", its length in a long form" : "");
+        show_field("", at, head + 2, note);
+        at += head + 2;
+    }
+    if (indefinite)
+        show_field("", at, 2, "end of the list");
+}
+
 static void show_initial(const bench *b)
 {
     const bench_exchange *x = &b->initial;
-    char note[32];
     printf("\n1  READER TO CARD: initial command, %zu bytes\n", x->command_len);
     show_command(x, "initial");
-    snprintf(note, sizeof note, "a list of %zu entries", b->plan.set_count);
-    show_field("data", x->command + 5, 2, note);
-    for (size_t i = 0; i < b->plan.set_count; i++) {
-        snprintf(note, sizeof note, "KeySetID %04X", b->sets[i].id.value);
-        show_field("", x->command + 7 + 4 * i, 4, note);
-    }
+    show_list(b, x->command + 5);
     show_field("Le", x->command + x->command_len - 1, 1, "");
 }
 
@@ -163,12 +182,17 @@ static bool record_is(const bench *b, const example_mode *mode)
         && memcmp(b->session.work + b->session.record.start, b->card.area + slot->start, slot->len) == 0;
 }
 
-/* What a stranger can tell two sessions by is the same. */
+/* What a stranger can tell two sessions by is the same, from the card's first answer on. */
+static bool alike_behind_the_list(const bench *a, const bench *b)
+{
+    return a->initial.answer_len == b->initial.answer_len && a->final.command_len == b->final.command_len
+        && a->final.answer_len == b->final.answer_len && a->initial.reply.told.status == PLAID_ANSWER_OK
+        && a->final.reply.told.status == PLAID_ANSWER_OK;
+}
+
 static bool alike_on_the_line(const bench *a, const bench *b)
 {
-    return a->initial.command_len == b->initial.command_len && a->initial.answer_len == b->initial.answer_len
-        && a->final.command_len == b->final.command_len && a->final.answer_len == b->final.answer_len
-        && a->initial.reply.told.status == PLAID_ANSWER_OK && a->final.reply.told.status == PLAID_ANSWER_OK;
+    return a->initial.command_len == b->initial.command_len && alike_behind_the_list(a, b);
 }
 
 static bool watch_good(bench *b, const example_mode *mode)
@@ -205,13 +229,35 @@ static void show_exchange(const bench_exchange *x)
 /* What the key holder sees of the initial command. */
 static void explain_initial(const bench *b)
 {
-    if (b->session.opened.number != PLAID_DONE) {
+    const plaid_opened *o = &b->session.opened;
+    if (b->initial.in_session)
+        printf("    card     holds set %04X: RSA key %02X, session open\n", o->id.value, b->initial.reply.told.handle);
+    else
         printf("    card     holds none of the sets: shill RSA key %02X, no session\n", b->initial.reply.told.handle);
-        printf("    reader   Open gives %d: no block opens\n", b->session.opened.number);
-        return;
+    if (o->number == PLAID_DONE)
+        printf("    reader   Open finds entry %zu, set %04X\n", o->place, o->id.value);
+    else
+        printf("    reader   Open gives %d: no block opens\n", o->number);
+}
+
+/* A session that another maker's list opens: the list in full, and of the rest what the key holder sees. */
+static bool watch_other_list(const bench *good)
+{
+    static bench b;
+    const example_mode *mode = &example_wiegand;
+    bool ok = bench_run_other_list(&b, mode) && b.number == PLAID_DONE && b.initial.in_session && record_is(&b, mode)
+        && alike_behind_the_list(&b, good);
+    if (ok) {
+        printf("\nSESSION WITH ANOTHER MAKER'S LIST: mode %04X, the same KeySetIDs\n", mode->id.value);
+        show_initial(&b);
+        printf("\n2 TO 4  THE REST, with our reader as before\n");
+        explain_initial(&b);
+        printf("    card     makes %zu comparisons: 8 for every 4 whole bytes of data\n", b.initial.reply.told.comparisons);
+        printf("    reader   Accept gives the record\n");
+        show_field("record", b.session.work + b.session.record.start, b.session.record.length, "handed back");
     }
-    printf("    card     holds set %04X: RSA key %02X, session open\n", b->session.opened.id.value, b->initial.reply.told.handle);
-    printf("    reader   Open finds entry %zu, set %04X\n", b->session.opened.place, b->session.opened.id.value);
+    bench_forget(&b);
+    return ok;
 }
 
 /* And of the final one. */
@@ -272,6 +318,7 @@ static bool watch_all(bench *good)
     platform_erase(&loaded, sizeof loaded);
     bool ok = watch_good(good, &example_wiegand) && watch_good(&second, &example_uuid) && alike_on_the_line(&second, good);
     bench_forget(&second);
+    ok = ok && watch_other_list(good);
     for (size_t i = 0; ok && i < REFUSALS; i++)
         ok = watch_refused(good, &refusals[i]);
     return ok;
@@ -292,7 +339,8 @@ int main(int argc, char **argv)
     printf("PLAID sessions. Fresh bytes: %s.\nRSA: %s.\n\n", platform_source(), platform_rsa());
     bool ok = watch_all(&good);
     if (ok)
-        printf("\nOn the line all seven sessions were alike: messages of %zu, %zu, %zu and %zu\nbytes, status 9000. Two of them gave a record.\n",
+        printf("\nOn the line all eight sessions were alike, the other list's length apart:\n"
+               "messages of %zu, %zu, %zu and %zu bytes, status 9000. Three of them gave a record.\n",
             good.initial.command_len, good.initial.answer_len, good.final.command_len, good.final.answer_len);
     else
         printf("\nNOT AS EXPECTED: stopped.\n");

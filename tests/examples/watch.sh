@@ -19,19 +19,42 @@ watch_facts() { # NAME FILE
     holds "$1: plain characters" gives 0 "$(LC_ALL=C grep -c '[^ -~]' "$2")"
 }
 
-# The lines of the session for a mode; of such, the bytes of a field, and those of the rows behind a heading, as digits.
-part() { awk -v from="^SESSION FOR MODE $1:" '/^(SESSION|REFUSED)/ { on = $0 ~ from } on' "$2"; }
+# The lines of a session; of such, the bytes of a field, those of the rows behind a heading, and those of message 1 field by field, as digits.
+part() { awk -v from="^SESSION $1:" '/^(SESSION|REFUSED)/ { on = $0 ~ from } on' "$2"; }
 field() { sed -n "s/^    $1  *\(\([0-9A-F][0-9A-F] *\)*\)\([a-z][a-z ]*\)\{0,1\}$/\1/p" "$2" | head -n 1 | tr -d ' '; }
 rows() { awk -v from="^$1  " '$0 ~ from { on = 1; next } on && /^    ([0-9A-F][0-9A-F] ?)+$/ { print; next } on { exit }' "$2" | tr -d ' \n'; }
+fields() {
+    awk '/^1  / { on = 1; next } /^$/ { on = 0 } on && substr($0, 15, 2) == "  " { text = substr($0, 17); sub(/  .*/, "", text); print text }' \
+        "$1" | tr -d ' \n'
+}
 binary() { printf '%b' "$(printf '%s' "$1" | sed 's/../\\x&/g')"; }
 digits() { od -An -v -tx1 | tr -d ' \n' | tr a-f A-F; }
 
+# The initial command of a session, as it went over the line and field by field.
+initial_is() {
+    local bytes
+    bytes=$(printf '%s' "$@")
+    gives "$bytes $bytes" "$(rows 1 "$room/part") $(fields "$room/part")"
+}
+
 # The reader's result is the record's own bytes, and beside it stands the filler.
 session_facts() { # NAME FILE MODE RECORD FILLER: the filler as it is shown
-    part "$3" "$2" >"$room/part"
+    part "FOR MODE $3" "$2" >"$room/part"
+    holds "$1, mode $3: the list, in short forms" initial_is 00870000 0A 3008 04020301 04020102 00
     holds "$1, mode $3: the record" gives "$4" "$(field record "$room/part")"
     holds "$1, mode $3: the filler" gives "    filler      $5" "$(grep '^    filler ' "$room/part")"
     holds "$1, mode $3: KeysHash" keys_hash_is "$room/part"
+}
+
+# Another maker's list with the same KeySetIDs: indefinite form, and the length 82 00 02. The card takes it, and the record comes.
+other_list_facts() { # NAME FILE
+    part "WITH ANOTHER MAKER'S LIST" "$2" >"$room/part"
+    holds "$1, other list: its bytes" initial_is 00870000 0E 3080 04020301 048200020102 0000 00
+    holds "$1, other list: the card opens a session" grep -qx '    card     holds set 0102: RSA key 11, session open' "$room/part"
+    holds "$1, other list: the reader finds the set" grep -qx '    reader   Open finds entry 1, set 0102' "$room/part"
+    holds "$1, other list: compared places go by Lc" grep -q '^    card     makes 24 comparisons: ' "$room/part"
+    holds "$1, other list: the record" gives "$wiegand" "$(field record "$room/part")"
+    holds "$1: three records" grep -q 'status 9000\. Three of them gave a record\.$' "$2"
 }
 
 # KeysHash is SHA-256 of RND1 and RND2, by another program.
@@ -52,7 +75,7 @@ answer_is() { # RECORD AND FILLER
     gives "$1$(field DivData "$room/part")80$(zeros 30)" "$(deciphered "$(field '- KeysHash' "$room/part")" "$(rows 4 "$room/part")")"
 }
 by_openssl() { # FILE MODE RECORD FILLER
-    part "$2" "$1" >"$room/part"
+    part "FOR MODE $2" "$1" >"$room/part"
     holds "watch, mode $2: STR2, by openssl" sealed_is "$2"
     holds "watch, mode $2: the answer, by openssl" answer_is "$3$4"
 }
@@ -65,4 +88,5 @@ watch() { # NAME FILE [FLAG]: runs bin/watch with a folder for its temporary fil
     watch_facts "$1" "$2"
     session_facts "$1" "$2" 0007 "$wiegand" "00 00 00 00 00 00 00 00 00 00 00 00  not looked at"
     session_facts "$1" "$2" 0008 "$uuid" none
+    other_list_facts "$1" "$2"
 }

@@ -425,6 +425,139 @@ static void initial_refused(void)
     CHECK(memcmp(c.out + 3 + PLAID_FRESH_PADS, c.fresh, PLAID_FRESH_ANY) == 0);
 }
 
+/* An initial command with these data: taken for the sixth set, or refused like a list that has no set in common. A session was open. */
+static void check_form(const char *name, const uint8_t *data, size_t count, bool taken)
+{
+    load_case l = full_load();
+    call_case before = initial_call(l.sets[2].id);
+    plaid_card card = call(load(&l).card, &before).card;
+    uint8_t command[PLAID_COMMAND_MOST] = {0x00, PLAID_INS_INITIAL, 0x00, 0x00, (uint8_t)count};
+    memcpy(command + 5, data, count);
+    call_case c = call_of(command, count + 6);
+    plaid_outcome o = call(card, &c);
+    const plaid_answer *a = &o.answer;
+    check(a->number == PLAID_DONE && a->status == PLAID_ANSWER_OK && a->length == PLAID_ANSWER_INITIAL, name, __LINE__);
+    check(counts_are(a, 8 * (count / 4), 0, 0, 0, 0), name, __LINE__);
+    check(a->handle == (taken ? l.sets[5].handle : l.given.shill_handle), name, __LINE__);
+    check(o.card.session.opened == taken && o.card.session.id.value == (taken ? l.sets[5].id.value : 0), name, __LINE__);
+    if (taken)
+        check_block(c.out, &l, c.fresh, l.sets[5].id.value);
+    else
+        check(memcmp(c.out + 3 + PLAID_FRESH_PADS, c.fresh, PLAID_FRESH_ANY) == 0, name, __LINE__);
+}
+
+/* Data in hexadecimal. The card's sixth set is 5657, its first 0102; it has no EEEE. */
+typedef struct {
+    const char *data;
+    bool taken;
+} form;
+
+static const form forms[] = {
+    /* the short form, and 81 and one byte */
+    {"30 04 04 02 56 57", true},
+    {"30 81 04 04 02 56 57", true},
+    {"30 05 04 81 02 56 57", true},
+    /* longer ones, leading zeros */
+    {"30 82 00 08 04 02 EE EE 04 02 56 57", true},
+    {"30 84 00 00 00 04 04 02 56 57", true},
+    {"30 07 04 83 00 00 02 56 57", true},
+    /* the indefinite form; a KeySetID of zeros is no end */
+    {"30 80 04 02 56 57 00 00", true},
+    {"30 80 04 02 56 57 04 02 01 02 00 00", true},
+    {"30 80 04 02 00 00 04 82 00 02 56 57 00 00", true},
+    /* no entry, which is not malformed */
+    {"30 00", false},
+    {"30 80 00 00", false},
+    /* another tag; a constructed entry is none */
+    {"31 04 04 02 56 57", false},
+    {"30 80 05 02 56 57 00 00", false},
+    {"30 04 24 02 56 57", false},
+    {"30 06 24 04 04 02 56 57", false},
+    {"30 80 24 80 04 02 56 57 00 00 00 00", false},
+    /* a list's length that is not what follows */
+    {"30 82 00 03 04 02 56 57", false},
+    {"30 82 00 05 04 02 56 57", false},
+    /* an entry's that is not 2 */
+    {"30 06 04 82 00 01 56 57", false},
+    {"30 06 04 82 00 03 56 57", false},
+    {"30 07 04 82 00 03 56 57 00", false},
+    /* 80 at an entry */
+    {"30 04 04 80 56 57", false},
+    {"30 80 04 80 56 57 00 00", false},
+    {"30 80 04 80 56 57 00 00 00 00", false},
+    /* too few bytes */
+    {"30", false},
+    {"30 80", false},
+    {"30 82", false},
+    {"30 FE 00", false},
+    {"30 05 04 82 00 02 56", false},
+    {"30 80 04 02 56", false},
+    {"30 80 04 FE 00 02", false},
+    /* no 00 00 */
+    {"30 80 04 02 56 57", false},
+    {"30 80 04 02 56 57 00", false},
+    {"30 80 04 02 56 57 00 01", false},
+    {"30 80 04 02 56 57 01 00", false},
+    {"30 80 04 02 56 57 04 02 00 00", false},
+    /* bytes behind it */
+    {"30 80 04 02 56 57 00 00 00", false},
+    {"30 80 04 02 56 57 00 00 00 00", false},
+    {"30 80 00 00 04 02 56 57", false},
+    {"30 80 00 00 04 02 56 57 00 00", false},
+    /* 00 00 behind a definite length */
+    {"30 04 04 02 56 57 00 00", false},
+    {"30 06 04 02 56 57 00 00", false},
+    {"30 82 00 06 04 02 56 57 00 00", false},
+};
+
+static void list_forms(void)
+{
+    for (size_t i = 0; i < LENGTH(forms); i++) {
+        uint8_t data[PLAID_COMMAND_MOST];
+        unsigned byte;
+        int digits = 0;
+        size_t count = 0;
+        for (const char *at = forms[i].data; sscanf(at, "%2x%n", &byte, &digits) == 1; at += digits)
+            data[count++] = (uint8_t)byte;
+        check_form(forms[i].data, data, count, forms[i].taken);
+    }
+}
+
+/* A length in so many bytes, high byte first; `top` is the first of them, where there is more than one. Returns where it ends. */
+static uint8_t *write_length(uint8_t *to, size_t bytes, uint8_t top, uint8_t low)
+{
+    memset(to, 0, bytes + 1);
+    to[1] = top;
+    to[0] = (uint8_t)(0x80 + bytes);
+    to[bytes] = low;
+    return to + bytes + 1;
+}
+
+/* One entry for the sixth set, with the list's length in so many bytes, then with the entry's. */
+static void check_length(size_t bytes, uint8_t top, bool taken)
+{
+    uint8_t data[PLAID_COMMAND_MOST] = {0x30}, *at = write_length(data + 1, bytes, top, 4);
+    char name[64];
+    memcpy(at, (uint8_t[]){0x04, 0x02, 0x56, 0x57}, 4);
+    snprintf(name, sizeof name, "a list's length in %zu bytes, the first %02X", bytes, top);
+    check_form(name, data, (size_t)(at + 4 - data), taken);
+    memcpy(data, (uint8_t[]){0x30, 0x81, (uint8_t)(bytes + 4), 0x04}, 4);
+    at = write_length(data + 4, bytes, top, 2);
+    memcpy(at, (uint8_t[]){0x56, 0x57}, 2);
+    snprintf(name, sizeof name, "an entry's length in %zu bytes, the first %02X", bytes, top);
+    check_form(name, data, (size_t)(at + 2 - data), taken);
+}
+
+/* 1 to 126 bytes are taken, 127 are not: that is FF. A value that is right but for one bit above, be it 2^8 or 2^1000, fits nothing. */
+static void list_lengths(void)
+{
+    for (size_t bytes = 1; bytes <= 127; bytes++) {
+        check_length(bytes, 0, bytes < 127);
+        if (bytes > 1)
+            check_length(bytes, 1, false);
+    }
+}
+
 /* A declined call: number or status, zeros, the card kept with its session, nothing written. */
 static void check_declined(plaid_card card, call_case *c, unsigned number, unsigned status, int line)
 {
@@ -858,6 +991,8 @@ int main(void)
     load_records();
     initial_accepted();
     initial_refused();
+    list_forms();
+    list_lengths();
     commands_declined();
     list_fields();
     open_fields();

@@ -111,6 +111,15 @@ static void given_list(bool held)
     command_len = PLAID_COMMAND_MOST;
 }
 
+/* The same Lc in the indefinite form: 62 entries, the last with its length in three bytes. */
+static void given_other_forms(void)
+{
+    given_list(false);
+    memmove(command + 7, command + 8, 4 * 61);
+    command[6] = 0x80;
+    memcpy(command + 7 + 4 * 61, (uint8_t[]){0x04, 0x83, 0x00, 0x00, 0x02, 0x08, 0x08, 0x00, 0x00, 0x00}, 10);
+}
+
 static void given_initial(void) { given_list(true); }
 static void given_unknown(void) { given_list(false); }
 static void given_malformed(void) { given_list(true); command[8] = 0x05; }
@@ -243,6 +252,7 @@ static bool answered(size_t length)
     RUNS(declined_10, given_initial, PLAID_FRESH, PLAID_OUTPUT - 1, outcome.answer.number == PLAID_DECLINE_OUTPUT) \
     RUNS(declined_frame, given_no_frame, PLAID_FRESH, PLAID_OUTPUT, outcome.answer.status == PLAID_ANSWER_WRONG_LENGTH) \
     RUNS(initial_accepted, given_initial, PLAID_FRESH, PLAID_OUTPUT, answered(256) && outcome.card.session.opened) \
+    RUNS(initial_other_forms, given_other_forms, PLAID_FRESH, PLAID_OUTPUT, answered(256) && outcome.card.session.opened) \
     RUNS(initial_refused, given_unknown, PLAID_FRESH, PLAID_OUTPUT, answered(256) && !outcome.card.session.opened) \
     RUNS(initial_malformed, given_malformed, PLAID_FRESH, PLAID_OUTPUT, answered(256) && !outcome.card.session.opened) \
     RUNS(final_accepted, given_longest_final, PLAID_FRESH, PLAID_OUTPUT, command[4] == 240 && answered(96) && taken()) \
