@@ -23,7 +23,7 @@ fn bad_length(at: usize) -> Length
     }
 }
 
-// One byte more of a number; where that is over the largest usize, the largest.
+// One byte more of a number; where that is over the largest usize, the largest, which fits no data.
 fn grown(v: usize, b: u8) -> usize
     ensures { λ r. ⌜ r ≡ min (v * 256 + b) largest ⌝ }
 {
@@ -47,13 +47,11 @@ fn number(d: &[u8], from: usize, end: usize) -> usize
     v
 }
 
-// A length whose value fits: so many bytes are there behind it.
+// A length whose value fits the data: so many bytes are there behind it.
 fn fitting(d: &[u8], at: usize, v: usize, next: usize) -> Length
+    requires { ⌜ next ≤ length (now d) ⌝ }
     ensures { λ r. ⌜ r ≡ fitting (now (d .entry)) at v next ⌝ }
 {
-    if d.len() < next {
-        return bad_length(at);
-    }
     if d.len() - next < v {
         return bad_length(at);
     }
@@ -64,7 +62,7 @@ fn fitting(d: &[u8], at: usize, v: usize, next: usize) -> Length
     }
 }
 
-// The definite length at a place: the short form, or how many bytes follow, from 1 to 126, and those bytes.
+// The definite length at a place: the short form, or 81 to FE and as many bytes as that says.
 fn length_at(d: &[u8], at: usize) -> Length
     ensures { λ r. ⌜ r ≡ lengthAt (now (d .entry)) at ⌝ }
 {
@@ -76,10 +74,10 @@ fn length_at(d: &[u8], at: usize) -> Length
     if b < 0x80 {
         return fitting(d, at, b, from);
     }
-    if b <= 0x80 {
+    if b < 0x81 {
         return bad_length(at);
     }
-    if 0xff <= b {
+    if 0xfe < b {
         return bad_length(at);
     }
     let n = b - 0x80;
@@ -107,6 +105,7 @@ fn no_entry(at: usize) -> Entry
     }
 }
 
+// The KeySetID in an entry's two bytes.
 fn id_at(d: &[u8], at: usize) -> KeySetId
     requires { ⌜ at + 2 ≤ length (now d) ⌝ }
     ensures { λ r. ⌜ r .0 ≡ getD (now (d .entry)) at 0 * 256 + getD (now (d .entry)) (at + 1) 0 ⌝ }
@@ -235,7 +234,11 @@ fn ended(d: &[u8], definite: bool, at: usize) -> bool
     if d.len() < 2 {
         return false;
     }
-    if d.len() - 2 != at {
+    let last = d.len() - 2;
+    if last < at {
+        return false;
+    }
+    if at < last {
         return false;
     }
     if d[at] != 0 {

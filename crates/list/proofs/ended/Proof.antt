@@ -18,33 +18,23 @@ returns-2 c =
     let a = c .before .before .args in
     simp (c .before .if1 .left, ne-eqb (a .at + 2) (length (a .d .now)) (λ e. omega arith))
 
-sub-if3 : tie.Need-sub-if3
-sub-if3 c = search needs
+sub-last : tie.Need-sub-last
+sub-last c = search needs
 
 returns-3 : tie.Need-returns-3
 unfolding ended
 returns-3 c =
     let a = c .before .before .before .args in
-    simp (c .before .before .if1 .left, ne-eqb (a .at + 2) (length (a .d .now)) (λ e. c .if3 .taken (omega arith)))
-
-shared-slice-read-if4 : tie.Need-shared-slice-read-if4
-shared-slice-read-if4 c = search needs
+    simp (c .before .before .if1 .left, ne-eqb (a .at + 2) (length (a .d .now)) (λ e. omega arith))
 
 returns-4 : tie.Need-returns-4
 unfolding ended
 returns-4 c =
-    let a = c .before .before .before .before .before .args in
-    simp (
-      c .before .before .before .before .if1 .left,
-      eq-eqb (a .at + 2) (length (a .d .now)) (omega arith),
-      ne-eqb (getD (a .d .now) (a .at) 0) 0 (c .if4 .taken),
-    )
+    let a = c .before .before .before .before .args in
+    simp (c .before .before .before .if1 .left, ne-eqb (a .at + 2) (length (a .d .now)) (λ e. omega arith))
 
-add-result : tie.Need-add-result
-add-result c = search needs
-
-shared-slice-read-result : tie.Need-shared-slice-read-result
-shared-slice-read-result c = search needs
+shared-slice-read-if5 : tie.Need-shared-slice-read-if5
+shared-slice-read-if5 c = search needs
 
 returns-5 : tie.Need-returns-5
 unfolding ended
@@ -53,7 +43,23 @@ returns-5 c =
     simp (
       c .before .before .before .before .before .if1 .left,
       eq-eqb (a .at + 2) (length (a .d .now)) (omega arith),
-      eq-eqb (getD (a .d .now) (a .at) 0) 0 (c .before .if4 .left),
+      ne-eqb (getD (a .d .now) (a .at) 0) 0 (c .if5 .taken),
+    )
+
+add-result : tie.Need-add-result
+add-result c = search needs
+
+shared-slice-read-result : tie.Need-shared-slice-read-result
+shared-slice-read-result c = search needs
+
+returns-6 : tie.Need-returns-6
+unfolding ended
+returns-6 c =
+    let a = c .before .before .before .before .before .before .before .args in
+    simp (
+      c .before .before .before .before .before .before .if1 .left,
+      eq-eqb (a .at + 2) (length (a .d .now)) (omega arith),
+      eq-eqb (getD (a .d .now) (a .at) 0) 0 (c .before .if5 .left),
     )
 
 pub ended-spec : {M : Type 1} → statement M
@@ -62,10 +68,11 @@ ended-spec =
     (tie.spec
     returns
     returns-2
-    sub-if3
+    sub-last
     returns-3
-    shared-slice-read-if4
     returns-4
+    shared-slice-read-if5
+    returns-5
     add-result
     shared-slice-read-result
-    returns-5)
+    returns-6)

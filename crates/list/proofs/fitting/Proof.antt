@@ -9,6 +9,9 @@ use borrow.Author.Needs.{needs}
 use Rattle.list.proofs.fitting.Statement.{statement}
 use Rattle.list.proofs.fitting.Tie as tie
 
+sub-if1 : tie.Need-sub-if1
+sub-if1 c = search needs
+
 bad-length-requires : tie.Need-bad-length-requires
 bad-length-requires c κs = search needs
 
@@ -18,25 +21,11 @@ returns c =
     let a = c .before .before .before .args in
     c .bad-length .ensures ∙ simp (lt-leb (a .next + a .v) (length (a .d .now)) (omega arith))
 
-sub-if2 : tie.Need-sub-if2
-sub-if2 c = search needs
-
-bad-length-requires-2 : tie.Need-bad-length-requires-2
-bad-length-requires-2 c κs = search needs
-
 returns-2 : tie.Need-returns-2
 unfolding fitting
 returns-2 c =
-    let a = c .before .before .before .before .args in
-    c .bad-length2 .ensures ∙ simp (lt-leb (a .next + a .v) (length (a .d .now)) (omega arith))
-
-returns-3 : tie.Need-returns-3
-unfolding fitting
-returns-3 c =
-    let a = c .before .before .before .args in
+    let a = c .before .before .args in
     simp (le-leb (a .next + a .v) (length (a .d .now)) (omega arith))
 
 pub fitting-spec : {M : Type 1} → statement M
-fitting-spec =
-    tie.close
-    (tie.spec bad-length-requires returns sub-if2 bad-length-requires-2 returns-2 returns-3)
+fitting-spec = tie.close (tie.spec sub-if1 bad-length-requires returns returns-2)
