@@ -1,14 +1,15 @@
 -- The loop of `compare_places`: what is left of the places' comparisons, with what was found so far, is all of them. Assumes nothing.
-use mathlib.Core.Path.{_≡_, refl, sym, ap, _∙_}
+use mathlib.Core.Path.{_≡_, refl, sym, ap, ap₂, _∙_}
 use mathlib.Core.Bool.{Bool, true, false, cond, _&&_}
-use mathlib.Core.List.{List, _++_}
-use Prim.Native.Nat.{ℕ, suc, _+_, _-_, _*_, _<_, _≤_}
+use mathlib.Core.List.{List, [], _∷_, _++_}
+use Prim.Native.Nat.{ℕ, zero, suc, _+_, _-_, _*_, _<_, _≤_}
 use native.Mathlib.Nat.{zero-add, add-zero, add-assoc, sub-zero}
 use native.Mathlib.Omega.{arith}
 use lib.Dec.{eqb}
 use lib.ListN.{length}
 use Rattle.work.specs.Steps.{Step, comparison, counted, sumFrom}
 use Rattle.work.specs.Laws.{sumFrom-append, counted-append}
+use Rattle.steps.specs.Made.{setComparison}
 use Rattle.steps.specs.Laws.{kept-start, kept-last}
 use Rattle.list.specs.Ber.{entryAt}
 use Rattle.list.specs.declared.Entry.{Entry}
@@ -34,6 +35,30 @@ first-cases first f rest false e = simp e
 -- a place adds a comparison for each slot
 pub count-slots : {f : Found} (present : Bool) (v : KeySetId) (s : ℕ) (sets : List KeySetSlot) → length sets ≡ 8 → f ≡ slotsFound present v sets s → f .count ≡ 8
 count-slots present v s sets l e = ap (λ (x : Found). x .count) e ∙ counted-slots comparison present v sets ∙ omega arith
+
+-- a malformed list has only missing places, wherever the look starts
+slots-missing : (v w : KeySetId) (sets : List KeySetSlot) → slotSteps false v sets ≡ slotSteps false w sets
+slots-missing v w [] = refl
+slots-missing v w (k ∷ sets) = ap (λ (x : List Step). setComparison false v (k .held) (k .id) ∷ x) (slots-missing v w sets)
+
+slot-missing : (v w : KeySetId) (i : ℕ) (sets : List KeySetSlot) → firstSlot i false v sets ≡ firstSlot i false w sets
+slot-missing v w i [] = refl
+slot-missing v w i (k ∷ sets) = slot-missing v w (suc i) sets
+
+places-missing : (sets : List KeySetSlot) (d : List ℕ) (p q n : ℕ) → placeSteps sets false d p n ≡ placeSteps sets false d q n
+unfolding placeSteps
+places-missing sets d p q zero = refl
+places-missing sets d p q (suc n) = ap₂ _++_ (slots-missing (entryAt d p .id) (entryAt d q .id) sets) (places-missing sets d (entryAt d p .next) (entryAt d q .next) n)
+
+place-missing : (sets : List KeySetSlot) (d : List ℕ) (p q n : ℕ) → firstPlace sets false d p n ≡ firstPlace sets false d q n
+unfolding firstPlace
+place-missing sets d p q zero = refl
+place-missing sets d p q (suc n) =
+    ap₂ (λ (x y : ℕ). cond (eqb x 8) y x) (slot-missing (entryAt d p .id) (entryAt d q .id) 0 sets) (place-missing sets d (entryAt d p .next) (entryAt d q .next) n)
+
+pub places-from : (sets : List KeySetSlot) (formed : Bool) (d : List ℕ) (p q n : ℕ) → placesFound sets formed d (cond formed p q) n ≡ placesFound sets formed d p n
+places-from sets true d p q n = refl
+places-from sets false d p q n = rw (places-missing sets d q p n, place-missing sets d q p n)
 
 module _ (sets : List KeySetSlot) (formed : Bool) (d : List ℕ) where
   steps-next : (p m : ℕ) → placeSteps sets formed d p (suc m) ≡ slotSteps (formed && entryAt d p .ok) (entryAt d p .id) sets ++ placeSteps sets formed d (entryAt d p .next) m

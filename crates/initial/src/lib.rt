@@ -1,4 +1,5 @@
 //! The initial command: the places of its list against the key sets of a card, and the block that answers it.
+use list::Listed;
 use plaid_types::Answer;
 use plaid_types::Card;
 use plaid_types::Fresh;
@@ -53,13 +54,20 @@ fn first_of(at: usize, f: usize) -> usize
     if at == Card::KEY_SETS { f } else { at }
 }
 
+// Where the look for entries starts: for a malformed list, which has only missing places, behind the data, where none is read.
+fn first_place(l: Listed, end: usize) -> usize
+    ensures { λ r. ⌜ r ≡ cond (l .formed) (l .first) end ⌝ }
+{
+    if l.formed { l.first } else { end }
+}
+
 // Every place of the list against every slot, missing places and empty slots too.
 fn compare_places(sets: [KeySetSlot; Card::KEY_SETS], d: &[u8]) -> Found
     requires { ⌜ length (now d) < 256 ⌝ }
     ensures { λ r. ⌜ r ≡ dataFound sets (now (d .entry)) ⌝ }
 {
     let l = list::parse(d);
-    let mut p = l.first;
+    let mut p = first_place(l, d.len());
     let n = d.len() / 4;
     let mut at = Card::KEY_SETS;
     let mut s: u32 = 0;

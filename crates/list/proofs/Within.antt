@@ -13,7 +13,7 @@ use Rattle.octets.specs.Lists.{part}
 use Rattle.list.specs.declared.Length.{Length}
 use Rattle.list.specs.declared.Entry.{Entry}
 use Rattle.list.specs.Ber.{unsigned, noLength, fitting, lengthAt, entryAt, noHead, head, walked}
-use Rattle.list.specs.Laws.{largest, unsigned-more, length-sized, sized-reach, no-head, walked-back}
+use Rattle.list.specs.Laws.{largest, unsigned-more, length-sized, sized-reach, no-head, stuck, walked-add, walked-back}
 
 -- the number in the bytes before a place, and with the byte at it
 part-more : (d : List ℕ) (p n : ℕ) → p + n < length d → part d p (suc n) ≡ part d p n ++ (getD d (p + n) 0 ∷ [])
@@ -92,3 +92,9 @@ head-past d h = let q = List·getD-eq-default d 0 {n = 1} (omega arith) in no-he
 -- a turn of the walk
 pub walk-turn : (d : List ℕ) (at p j : ℕ) (e : Entry) → p ≡ walked d at j → e ≡ entryAt d p → e .next ≡ walked d at (j + 1)
 walk-turn d at p j e q r = rw (r, q, add-one, walked-back)
+
+-- where no entry stands the walk ends
+pub walk-stuck : (d : List ℕ) (at p j n : ℕ) (e : Entry) → j ≤ n → p ≡ walked d at j → e ≡ entryAt d p → e .ok ≡ false → p ≡ walked d at n
+walk-stuck d at p j n e h q r t =
+    let k : n ≡ j + (n - j) = omega arith in
+    sym (ap (walked d at) k ∙ walked-add d at j (n - j) ∙ ap (λ (x : ℕ). walked d x (n - j)) (sym q) ∙ stuck d p (rw r at t) (n - j))

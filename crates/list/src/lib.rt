@@ -218,6 +218,9 @@ fn walk(d: &[u8], at: usize, n: usize) -> usize
     let mut j: usize = 0;
     while j < n {
         let e = step_from(d, p);
+        if !e.ok {
+            return p;
+        }
         p = e.next;
         j += 1;
     }

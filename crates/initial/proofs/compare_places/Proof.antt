@@ -1,13 +1,13 @@
 -- `initial::compare_places` meets its contract. The invariant is `PlacesDone`: what is left, with what was found so far, is all. Assumes nothing.
 use borrow.Author.Needs.{needs}
-use Prim.Native.Nat.{_-_}
+use Prim.Native.Nat.{ℕ, _-_}
 use mathlib.Core.Path.{_≡_, ap, _∙_}
 use lib.ListN.{length}
 use Rattle.list.specs.Ber.{placeCount}
 use Rattle.list.specs.declared.Listed.{Listed}
 use native.Mathlib.Omega.{arith}
 use Rattle.initial.specs.Told.{placesFound}
-use Rattle.initial.proofs.Places.{PlacesDone, places-start, places-turn, places-end, count-slots}
+use Rattle.initial.proofs.Places.{PlacesDone, places-start, places-turn, places-end, places-from, count-slots}
 use Rattle.initial.proofs.compare_places.Statement.{statement}
 use Rattle.initial.proofs.compare_places.Tie as tie
 
@@ -19,6 +19,9 @@ abbrev μ-loop : tie.MeasureT-loop
 
 parse-requires : tie.Need-parse-requires Inv-loop μ-loop
 parse-requires c κs = search needs
+
+first-place-requires : tie.Need-first-place-requires Inv-loop μ-loop
+first-place-requires c κs = search needs
 
 loop-holds : tie.Need-loop-holds Inv-loop μ-loop
 loop-holds c = places-start _ _ _ _ _
@@ -34,7 +37,7 @@ compare-slots-requires c κs = search needs
 
 add-count : tie.Need-add-count Inv-loop μ-loop
 add-count c =
-    let s = c .before .before .before .before .before .before .before .before .before in
+    let s = c .before .before .before .before .before .before .before .before .before .before in
     let l : length (s .args .sets) ≡ 8 = search needs in
     let e : c .before .compare-slots .result .count ≡ 8 = count-slots _ _ _ (s .args .sets) l (c .before .compare-slots .ensures) in
     omega (arith, e, c .before .before .before .before .before .before .loop .inv .few, s .pre)
@@ -64,10 +67,13 @@ loop-again c =
 
 returns : tie.Need-returns Inv-loop μ-loop
 returns c =
-    let sets = c .before .before .before .before .args .sets in
-    let d = c .before .before .before .before .args .d .now in
+    let sets = c .before .before .before .before .before .args .sets in
+    let d = c .before .before .before .before .before .args .d .now in
+    let l = c .before .before .before .parse .result in
     places-end _ _ _ (c .loop-test .left) (c .before .loop .inv)
-    ∙ ap (λ (l : Listed). placesFound sets (l .formed) d (l .first) (placeCount d)) (c .before .before .parse .ensures)
+    ∙ ap (λ (p : ℕ). placesFound sets (l .formed) d p (placeCount d)) (c .before .before .first-place .ensures)
+    ∙ places-from sets (l .formed) d (l .first) (length d) (placeCount d)
+    ∙ ap (λ (l : Listed). placesFound sets (l .formed) d (l .first) (placeCount d)) (c .before .before .before .parse .ensures)
 
 pub compare-places-spec : {M : Type 1} → statement M
 compare-places-spec =
@@ -76,6 +82,7 @@ compare-places-spec =
     Inv-loop
     μ-loop
     parse-requires
+    first-place-requires
     loop-holds
     step-from-requires
     both-requires
