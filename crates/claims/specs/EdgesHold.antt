@@ -218,43 +218,26 @@ holds l i k g =
     slot-holds (idOf k) (cardOf l .sets) n
     (held-there (cardOf l .sets) (idOf k) i (omega (arith, g .within)) (ap (λ (y : KeySetSlot). y .held) e) (ap (λ (y : KeySetSlot). y .id) e ∙ ap idOf (g .id)))
 
--- data whose first entry is k
+-- well formed data whose first entry is k
 record Names (d : List ℕ) (k : ℕ) : Type 0 where
-  frames : Frames 0x87 d
-  slot : (c : Card) → firstSlot 0 true (idOf k) (c .sets) < 8 → slotOf c d ≡ firstSlot 0 true (idOf k) (c .sets)
+  formed : listed d .formed ≡ true
+  next : ℕ
+  entry : entryAt d (listed d .first) ≡ record { ok = true; id = idOf k; next = next }
+  long : 4 ≤ length d
+
+names-slot : (d : List ℕ) (k : ℕ) → Names d k → (c : Card) → firstSlot 0 true (idOf k) (c .sets) < 8 → slotOf c d ≡ firstSlot 0 true (idOf k) (c .sets)
+unfolding slotOf firstPlace
+names-slot d k m c h =
+    let l = m .long in
+    let n : placeCount d ≡ suc (placeCount d - 1) = omega arith in
+    ap (firstPlace (c .sets) (listed d .formed) d (listed d .first)) n
+    ∙ rw (m .formed, m .entry, ne-eqb (firstSlot 0 true (idOf k) (c .sets)) 8 (λ z. omega arith))
 
 answers : (d : List ℕ) (k : ℕ) → Names d k → (l : Load) (i : ℕ) → Gave l i k → EachCall l (framed 0x87 d) (Answered l k (8 * (length d / 4)))
 answers d k m l i g s fresh room lr t =
     let h = holds l i k g in
-    answered l d (m .frames) s fresh room lr t k (firstSlot 0 true (idOf k) (cardOf l .sets)) (m .slot (withSession (cardOf l) s) (h .below)) h
-
-names-one : Names (0x30 ∷ 4 ∷ 4 ∷ 2 ∷ 0 ∷ 1 ∷ []) 1
-unfolding statusOf whole frameOf dataOf part slotOf firstPlace listed head walked ended entryAt lengthAt fitting unsigned
-names-one = record { frames = record { status = refl; data-is = refl }; slot = λ c h. rw (ne-eqb (firstSlot 0 true (idOf 1) (c .sets)) 8 (λ z. omega arith)) }
-
-names-five : Names (0x30 ∷ 8 ∷ 4 ∷ 2 ∷ 0 ∷ 5 ∷ 4 ∷ 2 ∷ 0 ∷ 2 ∷ []) 5
-unfolding statusOf whole frameOf dataOf part slotOf firstPlace listed head walked ended entryAt lengthAt fitting unsigned
-names-five = record { frames = record { status = refl; data-is = refl }; slot = λ c h. rw (ne-eqb (firstSlot 0 true (idOf 5) (c .sets)) 8 (λ z. omega arith)) }
-
-names-one-81 : Names (0x30 ∷ 0x81 ∷ 4 ∷ 4 ∷ 2 ∷ 0 ∷ 1 ∷ []) 1
-unfolding statusOf whole frameOf dataOf part slotOf firstPlace listed head walked ended entryAt lengthAt fitting unsigned
-names-one-81 = record { frames = record { status = refl; data-is = refl }; slot = λ c h. rw (ne-eqb (firstSlot 0 true (idOf 1) (c .sets)) 8 (λ z. omega arith)) }
-
-names-five-82 : Names (0x30 ∷ 0x82 ∷ 0 ∷ 8 ∷ 4 ∷ 2 ∷ 0 ∷ 5 ∷ 4 ∷ 2 ∷ 0 ∷ 2 ∷ []) 5
-unfolding statusOf whole frameOf dataOf part slotOf firstPlace listed head walked ended entryAt lengthAt fitting unsigned
-names-five-82 = record { frames = record { status = refl; data-is = refl }; slot = λ c h. rw (ne-eqb (firstSlot 0 true (idOf 5) (c .sets)) 8 (λ z. omega arith)) }
-
-names-one-80 : Names (0x30 ∷ 0x80 ∷ 4 ∷ 2 ∷ 0 ∷ 1 ∷ 0 ∷ 0 ∷ []) 1
-unfolding statusOf whole frameOf dataOf part slotOf firstPlace listed head walked ended entryAt lengthAt fitting unsigned
-names-one-80 = record { frames = record { status = refl; data-is = refl }; slot = λ c h. rw (ne-eqb (firstSlot 0 true (idOf 1) (c .sets)) 8 (λ z. omega arith)) }
-
-names-one-84 : Names (0x30 ∷ 0x84 ∷ 0 ∷ 0 ∷ 0 ∷ 4 ∷ 4 ∷ 2 ∷ 0 ∷ 1 ∷ []) 1
-unfolding statusOf whole frameOf dataOf part slotOf firstPlace listed head walked ended entryAt lengthAt fitting unsigned
-names-one-84 = record { frames = record { status = refl; data-is = refl }; slot = λ c h. rw (ne-eqb (firstSlot 0 true (idOf 1) (c .sets)) 8 (λ z. omega arith)) }
-
-names-one-entry-81 : Names (0x30 ∷ 5 ∷ 4 ∷ 0x81 ∷ 2 ∷ 0 ∷ 1 ∷ []) 1
-unfolding statusOf whole frameOf dataOf part slotOf firstPlace listed head walked ended entryAt lengthAt fitting unsigned
-names-one-entry-81 = record { frames = record { status = refl; data-is = refl }; slot = λ c h. rw (ne-eqb (firstSlot 0 true (idOf 1) (c .sets)) 8 (λ z. omega arith)) }
+    let n = m .long in
+    answered l d (frames-any 0x87 d refl (omega arith)) s fresh room lr t k (firstSlot 0 true (idOf k) (cardOf l .sets)) (names-slot d k m (withSession (cardOf l) s) (h .below)) h
 
 -- set 1 held
 one-edge : (d : List ℕ) → Names d 1 → Of (λ l. (i : ℕ) × Gave l i 1) (λ l. EachCall l (framed 0x87 d) (Answered l 1 (8 * (length d / 4))))
@@ -292,14 +275,6 @@ none-edge = refuses (0x30 ∷ 0 ∷ []) (record { frames = record { status = ref
 
 ill-edge : (d : List ℕ) → 0 < length d → listed d .formed ≡ false → OfAll (λ l. EachCall l (framed 0x87 d) (Refused l (8 * (length d / 4))))
 ill-edge d h f = refuses d (record { frames = frames-any 0x87 d refl h; slot = malformed-refused d f })
-
-left-over-edge : OfAll (λ l. EachCall l (framed 0x87 (0x30 ∷ 4 ∷ 4 ∷ 2 ∷ 0 ∷ 1 ∷ 0 ∷ [])) (Refused l 8))
-unfolding listed head walked ended entryAt lengthAt fitting
-left-over-edge = ill-edge (0x30 ∷ 4 ∷ 4 ∷ 2 ∷ 0 ∷ 1 ∷ 0 ∷ []) (omega arith) refl
-
-one-byte-edge : OfAll (λ l. EachCall l (framed 0x87 (0x30 ∷ 3 ∷ 4 ∷ 1 ∷ 1 ∷ [])) (Refused l 8))
-unfolding listed head walked ended entryAt lengthAt fitting
-one-byte-edge = ill-edge (0x30 ∷ 3 ∷ 4 ∷ 1 ∷ 1 ∷ []) (omega arith) refl
 
 none-80-edge : OfAll (λ l. EachCall l (framed 0x87 (0x30 ∷ 0x80 ∷ 0 ∷ 0 ∷ [])) (Refused l 8))
 unfolding slotOf firstPlace listed head walked ended entryAt
@@ -508,14 +483,14 @@ final-edge lc h o = (
 )
 
 pub all-edges : All edges
-unfolding edges
+unfolding edges listed head walked ended entryAt lengthAt fitting unsigned part
 all-edges =
-    one-edge _ names-one and
-    five-edge _ names-five and
+    one-edge (0x30 ∷ 4 ∷ 4 ∷ 2 ∷ 0 ∷ 1 ∷ []) (record { formed = refl; next = 6; entry = refl; long = omega arith }) and
+    five-edge (0x30 ∷ 8 ∷ 4 ∷ 2 ∷ 0 ∷ 5 ∷ 4 ∷ 2 ∷ 0 ∷ 2 ∷ []) (record { formed = refl; next = 6; entry = refl; long = omega arith }) and
     none-edge and
-    left-over-edge and
-    one-byte-edge and
-    one-edge _ names-one-81 and
+    ill-edge (0x30 ∷ 4 ∷ 4 ∷ 2 ∷ 0 ∷ 1 ∷ 0 ∷ []) (omega arith) refl and
+    ill-edge (0x30 ∷ 3 ∷ 4 ∷ 1 ∷ 1 ∷ []) (omega arith) refl and
+    one-edge (0x30 ∷ 0x81 ∷ 4 ∷ 4 ∷ 2 ∷ 0 ∷ 1 ∷ []) (record { formed = refl; next = 7; entry = refl; long = omega arith }) and
     size-edge 15 (load-15 .0) (load-15 .1 .0) and
     size-edge 16 (load-16 .0) (load-16 .1 .0) and
     size-edge 64 (load-64 .0) (load-64 .1 .0) and
@@ -529,10 +504,10 @@ all-edges =
     both-edge and
     long-edge and
     alone-edge and
-    five-edge _ names-five-82 and
-    one-edge _ names-one-80 and
+    five-edge (0x30 ∷ 0x82 ∷ 0 ∷ 8 ∷ 4 ∷ 2 ∷ 0 ∷ 5 ∷ 4 ∷ 2 ∷ 0 ∷ 2 ∷ []) (record { formed = refl; next = 8; entry = refl; long = omega arith }) and
+    one-edge (0x30 ∷ 0x80 ∷ 4 ∷ 2 ∷ 0 ∷ 1 ∷ 0 ∷ 0 ∷ []) (record { formed = refl; next = 6; entry = refl; long = omega arith }) and
     none-80-edge and
-    one-edge _ names-one-84 and
-    one-edge _ names-one-entry-81 and
+    one-edge (0x30 ∷ 0x84 ∷ 0 ∷ 0 ∷ 0 ∷ 4 ∷ 4 ∷ 2 ∷ 0 ∷ 1 ∷ []) (record { formed = refl; next = 10; entry = refl; long = omega arith }) and
+    one-edge (0x30 ∷ 5 ∷ 4 ∷ 0x81 ∷ 2 ∷ 0 ∷ 1 ∷ []) (record { formed = refl; next = 7; entry = refl; long = omega arith }) and
     ff-edge and
     end

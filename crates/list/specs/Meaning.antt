@@ -1,6 +1,6 @@
 -- Well formed data are just the encodings of lists of KeySetIDs: floor(Lc/4) turns are enough to walk each, and the walk finds each KeySetID in its place.
 -- Assumes nothing.
-use mathlib.Core.Path.{_≡_, refl, sym, ap, ap₂, subst⁻¹, _∙_}
+use mathlib.Core.Path.{_≡_, refl, sym, ap, subst⁻¹, _∙_}
 use mathlib.Core.Bool.{Bool, true, false, _&&_, and-eq-true-iff, false≢true, true≢false}
 use mathlib.Core.List.{List, [], _∷_, _++_, append-assoc, append-nil}
 use Prim.Native.Nat.{ℕ, zero, suc, _+_, _*_, _-_, _/_, _%_, _<_, _≤_}
@@ -322,18 +322,17 @@ length-front : {v : ℕ} {b : List ℕ} (r t : List ℕ) → IsLength v (r ++ t)
 length-front {v} r t (short l) = record { front = v ∷ r; is = short l; split = refl }
 length-front {v} r t (long s z l u) = record { front = (0x80 + length s) ∷ (s ++ r); is = long s z l u; split = ap (λ (x : List ℕ). (0x80 + length s) ∷ x) (sym (append-assoc s r t)) }
 
+entry-cons : {t b e r ids : List ℕ} (high low : ℕ) → e ≡ 4 ∷ b → Front 2 (high ∷ low ∷ r) t b → AreEntries ids r → Entries t e
+entry-cons {t} {b} {e} {r} {ids} high low q f a =
+    record { ids = (high * 256 + low) ∷ ids; front = 4 ∷ f .front; are = more refl (f .is) a; split = q ∙ ap (λ (x : List ℕ). 4 ∷ x) (f .split) }
+
 entry-more : (d t : List ℕ) (p m : ℕ) → Seen d p m → Entries t (drop (m + 2) d) → Entries t (drop p d)
 entry-more d t p m s e =
     let r = sized-reach (s .sized) in
     let o : m + 1 + 1 ≡ m + 2 = omega arith in
     let l = rw (byte-at d m (omega arith), byte-at d (m + 1) (omega arith), o, e .split) at (is-length (s .sized)) in
-    let f = length-front (getD d m 0 ∷ getD d (m + 1) 0 ∷ e .front) t l in
-    record {
-      ids = (getD d m 0 * 256 + getD d (m + 1) 0) ∷ e .ids;
-      front = 4 ∷ f .front;
-      are = more refl (f .is) (e .are);
-      split = byte-at d p (omega arith) ∙ ap₂ (λ (x : ℕ) (y : List ℕ). x ∷ y) (s .tag) (f .split);
-    }
+    let q : drop p d ≡ 4 ∷ drop (p + 1) d = byte-at d p (omega arith) ∙ ap (λ (x : ℕ). x ∷ drop (p + 1) d) (s .tag) in
+    entry-cons (getD d m 0) (getD d (m + 1) 0) q (length-front (getD d m 0 ∷ getD d (m + 1) 0 ∷ e .front) t l) (e .are)
 
 entries-by :
     (d t : List ℕ) (n p : ℕ) (e : Entry)
