@@ -5,7 +5,7 @@ use mathlib.Core.List.{List}
 use Prim.Native.Nat.{ℕ, _<_, _≤_}
 use native.Mathlib.Omega.{arith}
 use lib.Dec.{ltb}
-use lib.ListN.{length, getD, take, List·getD-map, List·getD-eq-default}
+use lib.ListN.{length, getD, take, List·getD-map, List·getD-eq-default, length-map}
 use lib.Seq.{getD-take, length-take-le}
 use borrow.Author.Tests.{ltb-true, ltb-false}
 use Rattle.octets.specs.Bytes.{Bytes}
@@ -18,6 +18,7 @@ use Rattle.plaid_types.specs.declared.Card.{Card}
 use Rattle.load.specs.Load.{pastSet, pastMode, some, setSlot, modeSlot}
 use Rattle.load.specs.Laws.{map-take, setAt, modeAt, Stocked}
 use Rattle.list.specs.Encoding.{encoded}
+use Rattle.list.specs.Meaning.{encoded-encodes}
 use Rattle.initial.specs.Initial.{slotOf}
 use Rattle.final_command.specs.Final.{firstMode}
 use Rattle.card.specs.Command.{outcome, answerBytes}
@@ -99,7 +100,7 @@ module _ (e : Exchange) (k : Conditions e) where
   found-slot : slotOf (card e) (encoded (numbers ids)) ≡ k .set
   found-slot =
       slot-unique (card e) g (getD ids (k .place) noId)
-      (subst (λ (m : ℕ). Holds (card e .sets) (slotOf (card e) (encoded (numbers ids))) (getD ids m noId)) first-is (list-slot (card e) g ids (omega (arith, ids-are, range .1)) some-held))
+      (subst (λ (m : ℕ). Holds (card e .sets) (slotOf (card e) (encoded (numbers ids))) (getD ids m noId)) first-is (list-slot (card e) g ids (encoded (numbers ids)) (encoded-encodes (numbers ids) (omega (arith, length-map ids (λ (x : KeySetId). x .0), ids-are, range .1))) some-held))
       (record { below = below; kept = slot-held; id = slot-id })
 
   key-is : setAt (card e) (slotOf (card e) (encoded (given (e .ids) (e .count)))) .«fa_key» ≡ e .faKey

@@ -1,11 +1,11 @@
 -- A command in its frame, as a card reads it: 00, INS, 00 00, Lc, Lc data bytes, 00. It is without fault where INS is known. Assumes nothing.
-use mathlib.Core.Path.{_≡_, ap, _∙_}
+use mathlib.Core.Path.{_≡_, _∙_}
 use mathlib.Core.Bool.{true}
 use mathlib.Core.List.{List, [], _∷_, _++_}
 use Prim.Native.Nat.{ℕ, _+_, _-_, _<_}
 use native.Mathlib.Omega.{arith}
 use borrow.Author.Tests.{le-ltb, eq-eqb}
-use lib.ListN.{length, getD, length-append}
+use lib.ListN.{length, length-append}
 use lib.Seq.{take-at, getD-at}
 use Rattle.octets.specs.Lists.{part}
 use Rattle.frame.specs.Frame.{frameOf, claOf, insOf, p1Of, p2Of, lcOf, knownIns, whole, statusOf, dataOf}

@@ -156,29 +156,6 @@ no-tag d p h = simp (ne-eqb (getD d p 0) 4 h)
 pub past-entry : (d : List ℕ) (p : ℕ) → length d ≤ p → entryAt d p ≡ noEntry p
 past-entry d p h = let q = List·getD-eq-default d 0 h in no-tag d p (λ e. omega arith)
 
--- an entry takes four bytes or more, and they are in the data
-pub record Four (d : List ℕ) (p n : ℕ) : Type 0 where
-  pub four : p + 4 ≤ n
-  pub within : n ≤ length d
-
-seen-four : {d : List ℕ} {p m : ℕ} → Seen d p m → Four d p (m + 2)
-seen-four s = let r = sized-reach (s .sized) in record { four = omega arith; within = omega arith }
-
--- no entry leads back, nor out of the data
-next-ge-by : (d : List ℕ) (p : ℕ) (e : Entry) → Case d p e → p ≤ e .next
-next-ge-by d p e (there m s q) = let f = seen-four s in rw q (omega arith)
-next-ge-by d p e (missing q) = rw q (omega arith)
-
-pub next-ge : (d : List ℕ) (p : ℕ) → p ≤ entryAt d p .next
-next-ge d p = next-ge-by d p (entryAt d p) (entry-case d p)
-
-next-le-by : (d : List ℕ) (p : ℕ) (e : Entry) → Case d p e → p ≤ length d → e .next ≤ length d
-next-le-by d p e (there m s q) h = rw q (seen-four s .within)
-next-le-by d p e (missing q) h = rw q h
-
-pub next-le : (d : List ℕ) (p : ℕ) → p ≤ length d → entryAt d p .next ≤ length d
-next-le d p = next-le-by d p (entryAt d p) (entry-case d p)
-
 -- a head h is right, tag 30 and the length l that says just what is left, or 80; or there is none
 pub data HeadCase (d : List ℕ) (l : Length) (h : Outer) : Type 0 where
   right : getD d 0 0 ≡ 0x30 → l .ok ≡ true → l .next + l .value ≡ length d → h ≡ record { ok = true; definite = true; first = l .next } → HeadCase d l h
@@ -239,13 +216,3 @@ pub stuck : (d : List ℕ) (p : ℕ) → entryAt d p .ok ≡ false → (n : ℕ)
 unfolding walked
 stuck d p t zero = refl
 stuck d p t (suc n) = ap (λ (q : ℕ). walked d q n) (no-next d p t) ∙ stuck d p t n
-
-pub walked-ge : (d : List ℕ) (p n : ℕ) → p ≤ walked d p n
-unfolding walked
-walked-ge d p zero = omega arith
-walked-ge d p (suc n) = omega (arith, next-ge d p, walked-ge d (entryAt d p .next) n)
-
-pub walked-le : (d : List ℕ) (p n : ℕ) → p ≤ length d → walked d p n ≤ length d
-unfolding walked
-walked-le d p zero h = h
-walked-le d p (suc n) h = walked-le d (entryAt d p .next) n (next-le d p h)

@@ -1,23 +1,21 @@
 -- Well formed data are just the encodings of lists of KeySetIDs: floor(Lc/4) turns are enough to walk each, and the walk finds each KeySetID in its place.
 -- Assumes nothing.
-use mathlib.Core.Path.{_≡_, refl, sym, ap, subst⁻¹, _∙_}
+use mathlib.Core.Path.{_≡_, refl, sym, ap, ap₂, subst⁻¹, _∙_}
 use mathlib.Core.Bool.{Bool, true, false, _&&_, and-eq-true-iff, false≢true, true≢false}
 use mathlib.Core.List.{List, [], _∷_, _++_, append-assoc, append-nil}
 use Prim.Native.Nat.{ℕ, zero, suc, _+_, _*_, _-_, _/_, _%_, _<_, _≤_}
-use native.Mathlib.Nat.{not-suc-le-zero}
 use native.Mathlib.Numerals.{add-one}
 use native.Mathlib.Omega.{arith}
 use borrow.Author.Tests.{eq-eqb, ne-eqb, eqb-true}
 use lib.Dec.{eqb}
 use lib.ListN.{length, getD, take, drop, length-append, length-drop, take-append-drop}
-use lib.Seq.{drop-cons, drop-drop, drop-length, drop-append-seam, take-append-seam, getD-drop, ext-getD}
+use lib.Seq.{drop-cons, drop-drop, drop-length, drop-append-seam, take-append-seam, getD-drop}
 use Rattle.octets.specs.Bytes.{Bytes}
 use Rattle.octets.specs.Lists.{part, length-part}
-use Rattle.list.specs.declared.Length.{Length}
 use Rattle.list.specs.declared.Entry.{Entry}
 use Rattle.list.specs.declared.Outer.{Outer}
-use Rattle.list.specs.Ber.{unsigned, lengthAt, entryAt, head, walked, ended, listed}
-use Rattle.list.specs.Laws.{Sized, short-at, long-at, sized-length, sized-reach, length-sized, Seen, seen-entry, Case, there, missing, entry-case, no-tag, HeadCase, right, open-end, wrong, head-case, stuck, walked-front, walked-back, walked-add, walked-le}
+use Rattle.list.specs.Ber.{unsigned, lengthAt, noEntry, entryAt, head, walked, ended, listed}
+use Rattle.list.specs.Laws.{Sized, short-at, long-at, sized-length, sized-reach, length-sized, Seen, seen-entry, Case, there, missing, entry-case, no-tag, HeadCase, right, open-end, wrong, head-case, stuck, walked-front, walked-add}
 use Rattle.list.specs.Encoding.{IsLength, short, long, AreEntries, none, more, Encodes, definite, indefinite, shortEntries, encoded}
 
 -- from place p on, the data are b
@@ -88,37 +86,10 @@ entry-seen {d} {b} {r} {p} {k} {high} {low} q l a =
       rest = rw e at (y .rest);
     }
 
--- the entry at place p is that of the KeySetID k
-pub record Place (d : List ℕ) (p k : ℕ) : Type 0 where
-  pub ok : entryAt d p .ok ≡ true
-  pub id : entryAt d p .id .0 ≡ k
-
--- the walk over the bytes of entries finds each in its place, and ends where t stands behind them
-record Walks (d t : List ℕ) (p : ℕ) (ids : List ℕ) : Type 0 where
-  pub end : At d (walked d p (length ids)) t
-  pub place : (j : ℕ) → j < length ids → Place d (walked d p j) (getD ids j 0)
-
-walk-on : (d : List ℕ) (p k n j : ℕ) → entryAt d p ≡ record { ok = true; id = record { 0 = k }; next = n } → walked d p (suc j) ≡ walked d n j
-walk-on d p k n j e = walked-front d p j ∙ ap (λ (x : Entry). walked d (x .next) j) e
-
-module _ (d t : List ℕ) (p k n : ℕ) (ids : List ℕ) (e : entryAt d p ≡ record { ok = true; id = record { 0 = k }; next = n }) (w : Walks d t n ids) where
-  place-cons : (j : ℕ) → j < length (k ∷ ids) → Place d (walked d p j) (getD (k ∷ ids) j 0)
-  unfolding walked
-  place-cons zero h = record { ok = ap (λ (x : Entry). x .ok) e; id = ap (λ (x : Entry). x .id .0) e }
-  place-cons (suc j) h = rw (walk-on d p k n j e) (w .place j (omega arith))
-
-  walks-cons : Walks d t p (k ∷ ids)
-  walks-cons = record { end = rw (walk-on d p k n (length ids) e) (w .end); place = place-cons }
-
 -- a length stays one with t behind all
 length-then : {v : ℕ} {r b : List ℕ} (t : List ℕ) → IsLength v r b → IsLength v (r ++ t) (b ++ t)
 length-then t (short l) = short l
 length-then {v} {r} t (long s z l u) = rw append-assoc (long s z l u)
-
-walks : {d b : List ℕ} {p : ℕ} {ids : List ℕ} (t : List ℕ) → AreEntries ids b → At d p (b ++ t) → Walks d t p ids
-unfolding walked
-walks t none a = record { end = a; place = λ j h. absurd (not-suc-le-zero h) }
-walks t (more q l e) a = let s = entry-seen q (length-then t l) a in walks-cons _ t _ _ (s .n) _ (s .is) (walks t e (s .rest))
 
 -- an entry takes four bytes or more
 length-long : {v : ℕ} {r b : List ℕ} → IsLength v r b → length r < length b
@@ -129,22 +100,40 @@ entries-long : {ids b : List ℕ} → AreEntries ids b → 4 * length ids ≤ le
 entries-long none = omega arith
 entries-long (more q l e) = omega (arith, length-long l, entries-long e)
 
+-- from place p on stand the entries of the KeySetIDs, one behind the other, and behind the last there is none
+pub data Lists (d : List ℕ) : ℕ → List ℕ → Type 0 where
+  ends : {p : ℕ} → entryAt d p ≡ noEntry p → Lists d p []
+  goes-on : {p n k : ℕ} {ids : List ℕ} → entryAt d p ≡ record { ok = true; id = record { 0 = k }; next = n } → Lists d n ids → Lists d p (k ∷ ids)
+
 -- where the entries end, with the data or with two zero bytes, no entry stands
-end-missing : {d t : List ℕ} {p : ℕ} → At d p t → getD t 0 0 ≡ 0 → entryAt d p .ok ≡ false
+end-missing : {d t : List ℕ} {p : ℕ} → At d p t → getD t 0 0 ≡ 0 → entryAt d p ≡ noEntry p
 end-missing {d} {t} {p} a z =
     let e : getD d (p + 0) 0 ≡ 0 = sym (getD-drop p d 0 0) ∙ ap (λ (x : List ℕ). getD x 0 0) (a .rest) ∙ z in
     let q : p + 0 ≡ p = omega arith in
-    ap (λ (x : Entry). x .ok) (no-tag d p (λ f. let g = rw q at e in omega arith))
+    no-tag d p (λ f. let g = rw q at e in omega arith)
 
--- so as many turns as there are entries are enough, and more do no harm
-walks-enough : {d b : List ℕ} {p : ℕ} {ids : List ℕ} (t : List ℕ) → getD t 0 0 ≡ 0 → AreEntries ids b → At d p (b ++ t) → At d (walked d p (length d / 4)) t
-walks-enough {d} {b} {p} {ids} t z e a =
-    let k : ℕ = length d / 4 - length ids in
-    let q : length d / 4 ≡ length ids + k = omega (arith, entries-long e, at-length a, length-append b t) in
-    let w = walks t e a .end in
-    let s : walked d p (length d / 4) ≡ walked d p (length ids) =
-    ap (walked d p) q ∙ walked-add d p (length ids) k ∙ stuck d (walked d p (length ids)) (end-missing w z) k in
-    rw s w
+-- the bytes of entries, with t behind them, where they stand
+module _ {d : List ℕ} (t : List ℕ) (z : getD t 0 0 ≡ 0) where
+  lists : {b ids : List ℕ} {p : ℕ} → AreEntries ids b → At d p (b ++ t) → Lists d p ids
+  lists none a = ends (end-missing a z)
+  lists (more q l e) a = let s = entry-seen q (length-then t l) a in goes-on (s .is) (lists e (s .rest))
+
+  walks-end : {b ids : List ℕ} {p : ℕ} → AreEntries ids b → At d p (b ++ t) → At d (walked d p (length ids)) t
+  unfolding walked
+  walks-end none a = a
+  walks-end {p = p} (more {ids = ids} q l e) a =
+      let s = entry-seen q (length-then t l) a in
+      rw (walked-front d p (length ids) ∙ ap (λ (x : Entry). walked d (x .next) (length ids)) (s .is)) (walks-end e (s .rest))
+
+  -- so as many turns as there are entries are enough, and more do no harm
+  walks-enough : {b ids : List ℕ} {p : ℕ} → AreEntries ids b → At d p (b ++ t) → At d (walked d p (length d / 4)) t
+  walks-enough {b} {ids} {p} e a =
+      let k : ℕ = length d / 4 - length ids in
+      let q : length d / 4 ≡ length ids + k = omega (arith, entries-long e, at-length a, length-append b t) in
+      let w = walks-end e a in
+      let m = ap (λ (x : Entry). x .ok) (end-missing w z) in
+      let s : walked d p (length d / 4) ≡ walked d p (length ids) = ap (walked d p) q ∙ walked-add d p (length ids) k ∙ stuck d (walked d p (length ids)) m k in
+      rw s w
 
 -- what stands behind the entries: nothing, or the end-of-contents octets
 abbrev tail : Bool → List ℕ
@@ -194,26 +183,19 @@ module _ {d ids : List ℕ} (e : Encodes ids d) where
   abbrev seen : HeadSeen d ids
   seen = head-seen e
 
-  first-is : listed d .first ≡ seen .n
-  unfolding listed
-  first-is = ap (λ (x : Outer). x .first) (seen .is)
-
   -- an encoding is well formed
   pub encodes-formed : listed d .formed ≡ true
   unfolding listed
   encodes-formed =
       simp (seen .is, tail-ended d (seen .form) (walked d (seen .n) (length d / 4)) (walks-enough (tail (seen .form)) (tail-zero (seen .form)) (seen .entries) (seen .rest)))
 
-  encodes-walks : Walks d (tail (seen .form)) (seen .n) ids
-  encodes-walks = walks (tail (seen .form)) (seen .entries) (seen .rest)
+  -- its KeySetIDs are listed from the first place on, and there are places enough
+  pub encodes-lists : Lists d (listed d .first) ids
+  unfolding listed
+  encodes-lists = rw (seen .is) (lists (tail (seen .form)) (tail-zero (seen .form)) (seen .entries) (seen .rest))
 
-  -- each KeySetID is at its place of the walk
-  pub encodes-place : (j : ℕ) → j < length ids → Place d (walked d (listed d .first) j) (getD ids j 0)
-  encodes-place j l = rw first-is (encodes-walks .place j l)
-
-  -- behind the last one there is no entry
-  pub encodes-last : entryAt d (walked d (listed d .first) (length ids)) .ok ≡ false
-  encodes-last = rw first-is (end-missing (encodes-walks .end) (tail-zero (seen .form)))
+  pub encodes-few : length ids ≤ length d / 4
+  encodes-few = omega (arith, entries-long (seen .entries), at-length (seen .rest), length-append (seen .r) (tail (seen .form)))
 
 -- the encoding with all lengths in the short form: at most 31 KeySetIDs, so that the list's own length is below 128
 short-are : (ids : List ℕ) → AreEntries ids (shortEntries ids)
@@ -235,44 +217,6 @@ unfolding encoded
 encoded-encodes ids h =
     let l : IsLength (4 * length ids) (shortEntries ids) (4 * length ids ∷ shortEntries ids) = short (omega arith) in
     definite {r = shortEntries ids} {b = 4 * length ids ∷ shortEntries ids} (rw (length-short ids) l) (short-are ids)
-
-pub encoded-formed : (ids : List ℕ) → length ids < 32 → listed (encoded ids) .formed ≡ true
-encoded-formed ids h = encodes-formed (encoded-encodes ids h)
-
-pub encoded-place : (ids : List ℕ) → length ids < 32 → (j : ℕ) → j < length ids → Place (encoded ids) (walked (encoded ids) (listed (encoded ids) .first) j) (getD ids j 0)
-encoded-place ids h = encodes-place (encoded-encodes ids h)
-
--- where they stand: the first at place 2, each four bytes behind the one before
-walks-short : {d : List ℕ} {p : ℕ} (ids : List ℕ) → At d p (shortEntries ids) → (j : ℕ) → j ≤ length ids → walked d p j ≡ p + 4 * j
-unfolding walked shortEntries
-walks-short {d} {p} ids a zero h = omega arith
-walks-short {d} {p} [] a (suc j) h = absurd (not-suc-le-zero h)
-walks-short {d} {p} (k ∷ ids) a (suc j) h =
-    let s = entry-seen {k = k} {high = k / 256} {low = k % 256} (omega arith) (short (omega arith)) a in
-    let x = at-length a in
-    let y = at-length (s .rest) in
-    walk-on d p k (s .n) j (s .is) ∙ walks-short ids (s .rest) j (omega arith) ∙ omega arith
-
-pub encoded-first : (ids : List ℕ) → length ids < 32 → listed (encoded ids) .first ≡ 2
-unfolding listed encoded
-encoded-first ids h =
-    let z = length-short ids in
-    let s : Sized (encoded ids) 1 (4 * length ids) 2 = short-at refl (omega arith) refl (omega arith) in
-    ap (λ (x : Outer). x .first) (head-at (encoded ids) (4 * length ids) 2 refl s (omega arith))
-
-pub encoded-walk : (ids : List ℕ) → length ids < 32 → (j : ℕ) → j ≤ length ids → walked (encoded ids) (listed (encoded ids) .first) j ≡ 2 + 4 * j
-unfolding encoded
-encoded-walk ids h j l = rw (encoded-first ids h) (walks-short ids (record { start = omega arith; rest = refl }) j l)
-
-same-entry : (e : Entry) (b : Bool) (k n : ℕ) → e .ok ≡ b → e .id .0 ≡ k → e .next ≡ n → e ≡ record { ok = b; id = record { 0 = k }; next = n }
-same-entry e b k n p q r = rw (← p, ← q, ← r)
-
-pub encoded-entry : (ids : List ℕ) → length ids < 32 → (j : ℕ) → j < length ids → entryAt (encoded ids) (2 + 4 * j) ≡ record { ok = true; id = record { 0 = getD ids j 0 }; next = 6 + 4 * j }
-encoded-entry ids h j l =
-    let w = encoded-walk ids h j (omega arith) in
-    let p = encoded-place ids h j l in
-    let n = sym (walked-back (encoded ids) (listed (encoded ids) .first) j) ∙ encoded-walk ids h (suc j) l in
-    rw (← w) (same-entry _ true (getD ids j 0) (6 + 4 * j) (p .ok) (p .id) (n ∙ omega arith))
 
 -- an encoding of KeySetIDs of two bytes is of bytes
 short-bytes : (ids : List ℕ) → ((i : ℕ) → getD ids i 0 < 65536) → Bytes (shortEntries ids)
@@ -398,12 +342,17 @@ unfolding listed
 formed-encodes d t = decoded-by d (head d) (head-case d) t
 
 -- and of one list only
-no-shorter : {d ids ids′ : List ℕ} → Encodes ids d → Encodes ids′ d → length ids < length ids′ → ⊥
-no-shorter {d} {ids} {ids′} e f h = true≢false (sym (encodes-place f (length ids) h .ok) ∙ encodes-last e)
+both-by : (e : Entry) (p k n : ℕ) → e ≡ noEntry p → e ≡ record { ok = true; id = record { 0 = k }; next = n } → ⊥
+both-by e p k n q r = true≢false (ap (λ (x : Entry). x .ok) (sym r ∙ q))
+
+one-list : {d ids ids′ : List ℕ} {p : ℕ} → Lists d p ids → Lists d p ids′ → ids ≡ ids′
+one-list (ends e) (ends f) = refl
+one-list (ends e) (goes-on f v) = absurd (both-by _ _ _ _ e f)
+one-list (goes-on e w) (ends f) = absurd (both-by _ _ _ _ f e)
+one-list {d} (goes-on {n = n} {k = k} {ids = ids} e w) (goes-on {n = n′} {k = k′} {ids = ids′} f v) =
+    let q = sym e ∙ f in
+    let m = ap (λ (x : Entry). x .next) q in
+    ap₂ (λ (x : ℕ) (y : List ℕ). x ∷ y) (ap (λ (x : Entry). x .id .0) q) (one-list w (subst⁻¹ (λ (x : ℕ). Lists d x ids′) m v))
 
 pub encodes-one : {d ids ids′ : List ℕ} → Encodes ids d → Encodes ids′ d → ids ≡ ids′
-encodes-one {d} {ids} {ids′} e f =
-    let a = no-shorter e f in
-    let b = no-shorter f e in
-    let l : length ids ≡ length ids′ = omega arith in
-    ext-getD 0 ids ids′ l (λ i h. sym (encodes-place e i h .id) ∙ encodes-place f i (omega arith) .id)
+encodes-one e f = one-list (encodes-lists e) (encodes-lists f)

@@ -14,7 +14,8 @@ use Rattle.octets.specs.ByteLists.{part-bytes}
 use Rattle.frame.specs.Frame.{frameOf, insOf, dataOf, initialIns, finalIns}
 use Rattle.frame.specs.Declines.{padBytes}
 use Rattle.frame.specs.Laws.{Passed, passed, length-pads}
-use Rattle.list.specs.Encoding.{encoded}
+use Rattle.list.specs.Encoding.{Encodes, encoded}
+use Rattle.list.specs.Meaning.{encoded-encodes}
 use Rattle.plaid_types.specs.Cards.{noSet, withSession, Reply}
 use Rattle.plaid_types.specs.declared.KeySetId.{KeySetId}
 use Rattle.plaid_types.specs.declared.OpModeId.{OpModeId}
@@ -182,8 +183,11 @@ module _ (c : Card) (ids : List KeySetId) (n : ℕ) (fresh₁ : List ℕ) (room�
     numbers-are : numbers entries ≡ listed
     numbers-are = sym (map-take (λ (x : KeySetId). x .0) n ids)
 
+    encodes : Encodes (numbers entries) (encoded (numbers entries))
+    encodes = encoded-encodes (numbers entries) (omega (arith, length-map entries (λ (x : KeySetId). x .0), entries-long, range .1))
+
     answers : Answers c fresh₁ (getD entries place noId) slot (initialReply c (encoded listed) fresh₁)
-    answers = rw numbers-are at (list-answered c g entries fresh₁ (omega (arith, entries-long, range .1)) (k .some-held))
+    answers = rw numbers-are at (list-answered c g entries (encoded (numbers entries)) fresh₁ encodes (k .some-held))
 
     reply₁ : replyTo c (listCommand listed) fresh₁ ≡ initialReply c (encoded listed) fresh₁
     reply₁ = reply-initial c (listCommand listed) fresh₁ (encoded listed) (taken .ins) (taken .list)
@@ -258,7 +262,7 @@ module _ (c : Card) (ids : List KeySetId) (n : ℕ) (fresh₁ : List ℕ) (room�
     key-is : faKeyOf (withSession c s₁) ≡ fa
     unfolding faKeyOf s₁
     key-is =
-        let w = rw numbers-are at (list-slot c g entries (omega (arith, entries-long, range .1)) (k .some-held)) in
+        let w = rw numbers-are at (list-slot c g entries (encoded (numbers entries)) encodes (k .some-held)) in
         ap (λ (i : KeySetId). keyOf (c .sets) i (c .«shill_key»)) (answers .id)
         ∙ key-held c g (getD entries place noId) (slotOf c (encoded listed)) w (c .«shill_key»)
         ∙ k .same-key

@@ -1,19 +1,18 @@
--- Of the KeySetIDs that are listed the card answers for the first that it holds: the slot, whether the command is accepted, and the reply. Assumes nothing.
+-- Of the KeySetIDs that are listed, in any form that encodes them, the card answers for the first that it holds: the slot, whether the command is accepted,
+-- and the reply; and two forms of one list get one answer. Assumes nothing.
 use mathlib.Core.Path.{_≡_, refl, sym, ap, _∙_}
 use mathlib.Core.Bool.{Bool, true, false, cond, false≢true}
 use mathlib.Core.List.{List, [], _∷_}
-use Prim.Native.Nat.{ℕ, zero, suc, _+_, _*_, _<_, _≤_}
+use Prim.Native.Nat.{ℕ, zero, suc, _≤_}
 use native.Mathlib.Nat.{not-suc-le-zero, le-of-suc-le-suc}
 use native.Mathlib.Omega.{arith}
 use borrow.Author.Tests.{eq-eqb, ne-eqb, lt-ltb, le-ltb}
 use lib.Dec.{eqb, ltb}
-use lib.ListN.{length, getD, drop, length-map, List·getD-map}
-use lib.Seq.{drop-cons, drop-length}
+use lib.ListN.{length, getD, length-map}
 use Rattle.octets.specs.Lists.{part}
-use Rattle.list.specs.Ber.{entryAt, placeCount, noEntry}
-use Rattle.list.specs.Encoding.{encoded}
-use Rattle.list.specs.Laws.{past-entry}
-use Rattle.list.specs.Meaning.{length-encoded, encoded-formed, encoded-first, encoded-entry}
+use Rattle.list.specs.Ber.{entryAt, placeCount, noEntry, listed}
+use Rattle.list.specs.Encoding.{Encodes}
+use Rattle.list.specs.Meaning.{Lists, ends, goes-on, encodes-formed, encodes-lists, encodes-few}
 use Rattle.plaid_types.specs.Cards.{noSet, Reply}
 use Rattle.plaid_types.specs.declared.KeySetId.{KeySetId}
 use Rattle.plaid_types.specs.declared.KeySetSlot.{KeySetSlot}
@@ -23,29 +22,6 @@ use Rattle.load.specs.Laws.{Stocked}
 use Rattle.initial.specs.Initial.{firstSlot, firstPlace, slotOf, acceptsInitial, str1, blockOf, acceptedInitial, refusedInitial, initialReply}
 use Rattle.reader_list.specs.List.{numbers}
 use Rattle.session_initial.specs.Held.{heldIn, held, firstOf, firstHeld, slot-missing, Holds, slot-holds, slot-none}
-
--- from place p on, the data list the KeySetIDs, and behind them there is no entry
-data Lists (d : List ℕ) : ℕ → List KeySetId → Type 0 where
-  none : {p : ℕ} → entryAt d p ≡ noEntry p → Lists d p []
-  more : {p n : ℕ} {k : KeySetId} {ids : List KeySetId} → entryAt d p ≡ record { ok = true; id = k; next = n } → Lists d n ids → Lists d p (k ∷ ids)
-
-length-numbers : (ids : List KeySetId) → length (numbers ids) ≡ length ids
-length-numbers ids = length-map ids (λ (k : KeySetId). k .0)
-
--- the entry of a KeySetID in the encoding of the numbers
-entry-listed : (ids : List KeySetId) → length ids < 32 → (j : ℕ) → j < length ids → entryAt (encoded (numbers ids)) (2 + 4 * j) ≡ record { ok = true; id = getD ids j (noSet .id); next = 6 + 4 * j }
-entry-listed ids h j l =
-    let n = length-numbers ids in
-    encoded-entry (numbers ids) (omega arith) j (omega arith)
-    ∙ ap (λ (k : ℕ). record { ok = true; id = record { 0 = k }; next = 6 + 4 * j }) (List·getD-map (λ (k : KeySetId). k .0) ids j (noSet .id))
-
-encoded-lists : (ids : List KeySetId) → length ids < 32 → (m j : ℕ) → j + m ≡ length ids → Lists (encoded (numbers ids)) (2 + 4 * j) (drop j ids)
-encoded-lists ids h zero j e =
-    let q : j ≡ length ids = omega arith in
-    rw (q, drop-length ids) (none (past-entry (encoded (numbers ids)) (2 + 4 * length ids) (omega (arith, length-encoded (numbers ids), length-numbers ids))))
-encoded-lists ids h (suc m) j e =
-    let q : 2 + 4 * suc j ≡ 6 + 4 * j = omega arith in
-    rw (drop-cons ids j (noSet .id) (omega arith)) (more (entry-listed ids h j (omega arith)) (rw q at (encoded-lists ids h m (suc j) (omega arith))))
 
 -- what the places' look finds: nothing, or the slot of the first listed that is held
 record Found (ss : List KeySetSlot) (ids : List KeySetId) (n : ℕ) : Type 0 where
@@ -75,34 +51,33 @@ found-by ss k ids n true l e f =
 found-by ss k ids n false l e f =
     rw (eq-eqb (firstSlot 0 true k ss) 8 (slot-none k ss l e)) (record { some-held = λ q. rw e (f .some-held (rw e at q)); none-held = λ q. f .none-held (rw e at q) })
 
-place-found : (ss : List KeySetSlot) (d : List ℕ) (p : ℕ) (ids : List KeySetId) (n : ℕ) → length ss ≡ 8 → length ids ≤ n → Lists d p ids → Found ss ids (firstPlace ss true d p n)
+place-found : (ss : List KeySetSlot) (d : List ℕ) (p : ℕ) (ids : List KeySetId) (n : ℕ) → length ss ≡ 8 → length ids ≤ n → Lists d p (numbers ids) → Found ss ids (firstPlace ss true d p n)
 unfolding firstPlace
-place-found ss d p [] n l h (none e) = record { some-held = λ q. absurd (false≢true q); none-held = λ q. place-end ss d p n l e }
-place-found ss d p (k ∷ ids) zero l h (more e w) = absurd (not-suc-le-zero h)
-place-found ss d p (k ∷ ids) (suc n) l h (more {n = m} e w) =
+place-found ss d p [] n l h (ends e) = record { some-held = λ q. absurd (false≢true q); none-held = λ q. place-end ss d p n l e }
+place-found ss d p (k ∷ ids) zero l h (goes-on e w) = absurd (not-suc-le-zero h)
+place-found ss d p (k ∷ ids) (suc n) l h (goes-on {n = m} e w) =
     rw e (found-by ss k ids (firstPlace ss true d m n) (heldIn ss k) l refl (place-found ss d m ids n l (le-of-suc-le-suc h) w))
 
--- the slot of a list's encoding
-slot-encoded : (c : Card) → Stocked c → (ids : List KeySetId) → length ids < 32 → Found (c .sets) ids (slotOf c (encoded (numbers ids)))
+-- the slot of a list, in whichever form the data encode it
+slot-encoded : (c : Card) → Stocked c → (ids : List KeySetId) (d : List ℕ) → Encodes (numbers ids) d → Found (c .sets) ids (slotOf c d)
 unfolding slotOf
-slot-encoded c s ids h =
-    let l = length-numbers ids in
-    rw (encoded-formed (numbers ids) (omega arith), encoded-first (numbers ids) (omega arith))
-    (place-found (c .sets) (encoded (numbers ids)) 2 ids (placeCount (encoded (numbers ids))) (s .sets-long) (omega (arith, length-encoded (numbers ids))) (encoded-lists ids h (length ids) 0 (omega arith)))
+slot-encoded c s ids d e =
+    rw (encodes-formed e)
+    (place-found (c .sets) d (listed d .first) ids (placeCount d) (s .sets-long) (omega (arith, encodes-few e, length-map ids (λ (k : KeySetId). k .0))) (encodes-lists e))
 
 below-by : (ss : List KeySetSlot) (ids : List KeySetId) (n : ℕ) (t : Bool) → some (heldIn ss) ids ≡ t → Found ss ids n → ltb n 8 ≡ t
 below-by ss ids n true e f = lt-ltb n 8 (f .some-held e .below)
 below-by ss ids n false e f = le-ltb n 8 (omega (arith, f .none-held e))
 
 -- an initial command is accepted exactly if the card holds some listed KeySetID
-pub list-accepted : (c : Card) → Stocked c → (ids : List KeySetId) → length ids < 32 → acceptsInitial c (encoded (numbers ids)) ≡ some (held c) ids
-list-accepted c s ids h = below-by (c .sets) ids (slotOf c (encoded (numbers ids))) (some (held c) ids) refl (slot-encoded c s ids h)
+pub list-accepted : (c : Card) → Stocked c → (ids : List KeySetId) (d : List ℕ) → Encodes (numbers ids) d → acceptsInitial c d ≡ some (held c) ids
+list-accepted c s ids d e = below-by (c .sets) ids (slotOf c d) (some (held c) ids) refl (slot-encoded c s ids d e)
 
 -- and then its slot is the one that holds the first listed that the card holds, wherever in the card it stands
 pub list-slot :
-    (c : Card) → Stocked c → (ids : List KeySetId) → length ids < 32 → some (held c) ids ≡ true
-    → Holds (c .sets) (slotOf c (encoded (numbers ids))) (getD ids (firstHeld c ids) (noSet .id))
-list-slot c s ids h q = slot-encoded c s ids h .some-held q
+    (c : Card) → Stocked c → (ids : List KeySetId) (d : List ℕ) → Encodes (numbers ids) d → some (held c) ids ≡ true
+    → Holds (c .sets) (slotOf c d) (getD ids (firstHeld c ids) (noSet .id))
+list-slot c s ids d e q = slot-encoded c s ids d e .some-held q
 
 -- the reply r answers for a slot that is held with KeySetID k
 pub record Answers (c : Card) (fresh : List ℕ) (k : KeySetId) (slot : KeySetSlot) (r : Reply) : Type 0 where
@@ -124,10 +99,40 @@ answers-by c d fresh k slot false e p q = absurd (false≢true e)
 
 -- the reply to a list of which the card holds some KeySetID: the block, the handle and the session are those of the first listed that it holds
 pub list-answered :
-    (c : Card) → Stocked c → (ids : List KeySetId) (fresh : List ℕ) → length ids < 32 → some (held c) ids ≡ true
-    → Answers c fresh (getD ids (firstHeld c ids) (noSet .id)) (getD (c .sets) (slotOf c (encoded (numbers ids))) noSet) (initialReply c (encoded (numbers ids)) fresh)
+    (c : Card) → Stocked c → (ids : List KeySetId) (d fresh : List ℕ) → Encodes (numbers ids) d → some (held c) ids ≡ true
+    → Answers c fresh (getD ids (firstHeld c ids) (noSet .id)) (getD (c .sets) (slotOf c d) noSet) (initialReply c d fresh)
 unfolding initialReply
-list-answered c s ids fresh h q =
-    let a = list-slot c s ids h q in
-    answers-by c (encoded (numbers ids)) fresh (getD ids (firstHeld c ids) (noSet .id)) (getD (c .sets) (slotOf c (encoded (numbers ids))) noSet) (acceptsInitial c (encoded (numbers ids)))
-    (list-accepted c s ids h ∙ q) (a .kept) (a .id)
+list-answered c s ids d fresh e q =
+    let a = list-slot c s ids d e q in
+    answers-by c d fresh (getD ids (firstHeld c ids) (noSet .id)) (getD (c .sets) (slotOf c d) noSet) (acceptsInitial c d) (list-accepted c s ids d e ∙ q) (a .kept) (a .id)
+
+-- the form of the list is not seen: two encodings of it lead to one slot, and so to one block, handle and session
+slots-alike : (ss : List KeySetSlot) (d d′ : List ℕ) (p p′ : ℕ) (ids : List ℕ) (n m : ℕ) → length ss ≡ 8 → length ids ≤ n → length ids ≤ m → Lists d p ids → Lists d′ p′ ids →
+    firstPlace ss true d p n ≡ firstPlace ss true d′ p′ m
+unfolding firstPlace
+slots-alike ss d d′ p p′ [] n m l h k (ends e) (ends f) = place-end ss d p n l e ∙ sym (place-end ss d′ p′ m l f)
+slots-alike ss d d′ p p′ (i ∷ ids) zero m l h k (goes-on e w) (goes-on f v) = absurd (not-suc-le-zero h)
+slots-alike ss d d′ p p′ (i ∷ ids) (suc n) zero l h k (goes-on e w) (goes-on f v) = absurd (not-suc-le-zero k)
+slots-alike ss d d′ p p′ (i ∷ ids) (suc n) (suc m) l h k (goes-on {n = q} e w) (goes-on {n = q′} f v) =
+    rw (e, f) (ap (λ (x : ℕ). cond (eqb (firstSlot 0 true (record { 0 = i }) ss) 8) x (firstSlot 0 true (record { 0 = i }) ss)) (slots-alike ss d d′ q q′ ids n m l (le-of-suc-le-suc h) (le-of-suc-le-suc k) w v))
+
+pub forms-slot : (c : Card) → length (c .sets) ≡ 8 → (ids d d′ : List ℕ) → Encodes ids d → Encodes ids d′ → slotOf c d ≡ slotOf c d′
+unfolding slotOf
+forms-slot c l ids d d′ e f =
+    rw (encodes-formed e, encodes-formed f)
+    (slots-alike (c .sets) d d′ (listed d .first) (listed d′ .first) ids (placeCount d) (placeCount d′) l (encodes-few e) (encodes-few f) (encodes-lists e) (encodes-lists f))
+
+-- what leaves the card, and the session
+pub record Alike (r r′ : Reply) : Type 0 where
+  pub bytes : r .bytes ≡ r′ .bytes
+  pub handle : r .handle ≡ r′ .handle
+  pub session : r .session ≡ r′ .session
+
+alike-by : (c : Card) (d d′ fresh : List ℕ) (slot : KeySetSlot) (t : Bool) →
+    Alike (cond t (acceptedInitial c d fresh slot) (refusedInitial c d fresh)) (cond t (acceptedInitial c d′ fresh slot) (refusedInitial c d′ fresh))
+alike-by c d d′ fresh slot true = record { bytes = refl; handle = refl; session = refl }
+alike-by c d d′ fresh slot false = record { bytes = refl; handle = refl; session = refl }
+
+pub forms-alike : (c : Card) → length (c .sets) ≡ 8 → (ids d d′ fresh : List ℕ) → Encodes ids d → Encodes ids d′ → Alike (initialReply c d fresh) (initialReply c d′ fresh)
+unfolding initialReply
+forms-alike c l ids d d′ fresh e f = rw (forms-slot c l ids d d′ e f) (alike-by c d d′ fresh (getD (c .sets) (slotOf c d′) noSet) (acceptsInitial c d′))
