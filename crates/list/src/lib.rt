@@ -74,6 +74,7 @@ fn length_at(d: &[u8], at: usize) -> Length
     if b < 0x80 {
         return fitting(d, at, b, from);
     }
+    // 80 is the indefinite form, which only the SEQUENCE may have, and X.690 keeps FF for later.
     if b < 0x81 {
         return bad_length(at);
     }
@@ -210,7 +211,7 @@ fn head(d: &[u8]) -> Outer
     }
 }
 
-// Where n entries from a place on end; an entry that is not one is not passed.
+// Where n entries from a place on end. What is no entry is not passed, nor read again: its length may be long.
 fn walk(d: &[u8], at: usize, n: usize) -> usize
     ensures { λ r. ⌜ r ≡ walked (now (d .entry)) at n ⌝ }
 {
@@ -227,7 +228,7 @@ fn walk(d: &[u8], at: usize, n: usize) -> usize
     p
 }
 
-// Whether the entries end at a place: with the data, or with two zero bytes and then the data.
+// Whether the entries end at a place: the data end there, or behind two zero bytes that stand there.
 fn ended(d: &[u8], definite: bool, at: usize) -> bool
     ensures { λ r. ⌜ r ≡ ended (now (d .entry)) definite at ⌝ }
 {
