@@ -164,8 +164,8 @@ typedef char plaid_size_is_64_bits[sizeof(size_t) == 8 ? 1 : -1];
 #define PLAID_STACK_COMMAND 8768
 #define PLAID_STACK_LIST 144
 #define PLAID_STACK_OPEN 160
-#define PLAID_STACK_SEAL 1264
-#define PLAID_STACK_ACCEPT 976
+#define PLAID_STACK_SEAL 1248
+#define PLAID_STACK_ACCEPT 944
 #define PLAID_STACK_RECORD 16
 
 /*

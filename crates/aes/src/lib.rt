@@ -61,19 +61,19 @@ pub fn expand(key: [u8; 16]) -> [[u8; 16]; 11]
     w
 }
 
-// CIPHER: one block enciphered under eleven round keys.
+// CIPHER: one block enciphered under eleven round keys. It is words from the first round key to the last.
 pub fn encipher(w: &[[u8; 16]; 11], s: [u8; 16]) -> [u8; 16]
     ensures { λ r. ⌜ r ≡ cipher 10 (now (w .entry)) s ⌝ }
 {
     let table = sbox::byte_table();
-    let mut t = octets::xor_block(s, w[0]);
+    let mut t = rounds::add_round_key(rounds::columns_of(s), w[0]);
     let mut i: usize = 0;
     while i < 9 {
         i += 1;
         let n = rounds::round(&table, t, w[i]);
         t = n;
     }
-    rounds::last_round(&table, t, w[10])
+    rounds::bytes_of(rounds::last_round(&table, t, w[10]))
 }
 
 // INVCIPHER: one block deciphered, with the round keys from the last to the first.
@@ -81,12 +81,12 @@ pub fn decipher(w: &[[u8; 16]; 11], s: [u8; 16]) -> [u8; 16]
     ensures { λ r. ⌜ r ≡ invCipher 10 (now (w .entry)) s ⌝ }
 {
     let table = sbox::inv_byte_table();
-    let mut t = octets::xor_block(s, w[10]);
+    let mut t = rounds::add_round_key(rounds::columns_of(s), w[10]);
     let mut i: usize = 9;
     while 0 < i {
         let n = rounds::inv_round(&table, t, w[i]);
         t = n;
         i -= 1;
     }
-    rounds::inv_last_round(&table, t, w[0])
+    rounds::bytes_of(rounds::inv_last_round(&table, t, w[0]))
 }

@@ -38,7 +38,7 @@ fn encipher_block(
     requires { ⌜ count + 1 < 2 ^ 64 ⌝ }
     ensures { λ r. ⌜ (r .block ≡ cipher 10 (now (w .entry)) (plain ⊕ before)) × (r .count ≡ count + 1) × (r .sum ≡ mixedAll sum (bytesOf (encipherStep (now (key .entry)) (cipher 10 (now (w .entry))) (plain ⊕ before)))) ⌝ }
 {
-    let input = octets::xor_block(plain, before);
+    let input = rounds::xor_block(plain, before);
     let output = aes::encipher(w, input);
     let made = count + 1;
     Stepped {
@@ -61,7 +61,7 @@ fn decipher_block(
     ensures { λ r. ⌜ (r .block ≡ invCipher 10 (now (w .entry)) cipher ⊕ before) × (r .count ≡ count + 1) × (r .sum ≡ mixedAll sum (bytesOf (decipherStep (now (key .entry)) (invCipher 10 (now (w .entry))) cipher))) ⌝ }
 {
     let output = aes::decipher(w, cipher);
-    let plain = octets::xor_block(output, before);
+    let plain = rounds::xor_block(output, before);
     let made = count + 1;
     Stepped {
         block: plain,

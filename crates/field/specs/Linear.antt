@@ -11,7 +11,8 @@ use Rattle.field.specs.Matrix.{rowTimes}
 pub xTimes-lt : (b : ℕ) → b < 256 → xTimes b < 256
 xTimes-lt b h = xor-lt 8 (b % 128 * 2) (b / 128 * 0x1b) (omega arith) (omega arith)
 
-xTimes-xor : (b c : ℕ) → b < 256 → c < 256 → xTimes (bitXor b c) ≡ bitXor (xTimes b) (xTimes c)
+-- XTIMES(b ⊕ c) = XTIMES(b) ⊕ XTIMES(c)
+pub xTimes-xor : (b c : ℕ) → b < 256 → c < 256 → xTimes (bitXor b c) ≡ bitXor (xTimes b) (xTimes c)
 xTimes-xor b c hb hc =
     ap₂ bitXor (ap (λ (x : ℕ). x * 2) (xor-mod b c 7) ∙ xor-double (b % 128) (c % 128))
     (ap (λ (x : ℕ). x * 0x1b) (xor-shr b c 7) ∙ scale-left (b / 128) (c / 128) 0x1b (omega arith) (omega arith))

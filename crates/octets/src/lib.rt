@@ -3,21 +3,8 @@ ghost use mathlib.Core.Path.{_≡_};
 ghost use Prim.Native.Nat.{_+_, _*_, _≤_};
 ghost use lib.ListN.{length};
 ghost use mathlib.Core.Bool.{_&&_};
-ghost use Rattle.octets.specs.Bytes.{xorBlock, same};
+ghost use Rattle.octets.specs.Bytes.{same};
 ghost use Rattle.octets.specs.Lists.{part, over};
-
-// The exclusive or of two blocks.
-pub fn xor_block(a: [u8; 16], b: [u8; 16]) -> [u8; 16]
-    ensures { λ r. ⌜ r ≡ xorBlock a b ⌝ }
-{
-    let mut t = a;
-    let mut i: usize = 0;
-    while i < 16 {
-        t[i] = t[i] ^ b[i];
-        i += 1;
-    }
-    t
-}
 
 // The block that stands at a place of a slice.
 pub fn block_at(s: &[u8], at: usize) -> [u8; 16]

@@ -3,4 +3,5 @@ pub mod Cipher
 pub mod InvCipher
 pub mod Blocks
 pub mod Undo
-pub mod Tables
+pub mod Columns
+pub mod Meaning

@@ -1,173 +1,172 @@
-//! The steps of a round of FIPS 197, sections 5.1 and 5.3, each on a state by value.
+//! The steps of a round of FIPS 197, sections 5.1 and 5.3, on a state of four words by value (T-03).
 ghost use mathlib.Core.Path.{_≡_};
+ghost use lib.ListN.{getD};
+ghost use Rattle.octets.specs.Bytes.{xorBlock};
 ghost use Rattle.sbox.specs.Rule.{sboxTable, invTable};
-ghost use Rattle.rounds.specs.Cipher.{shiftRows, mixColumns, round, lastRound};
-ghost use Rattle.rounds.specs.InvCipher.{invShiftRows, invMixColumns, invRound, invLastRound};
-ghost use Rattle.rounds.specs.Tables.{substituted};
+ghost use Rattle.column.specs.Word.{word, byteAt};
+ghost use Rattle.rounds.specs.Columns.{stateOf};
+ghost use Rattle.rounds.specs.Cipher.{subBytes, shiftRows, mixColumns, addRoundKey, round, lastRound};
+ghost use Rattle.rounds.specs.InvCipher.{invSubBytes, invShiftRows, invMixColumns, invRound, invLastRound};
 
-// Each byte of a state replaced by the table's entry for it: SUBBYTES or INVSUBBYTES, by the table that is lent.
-fn substitute(table: &[u8; 256], s: [u8; 16]) -> [u8; 16]
-    ensures { λ r. ⌜ r ≡ substituted (now (table .entry)) s ⌝ }
+// The columns of a state, from the first. The state that they mean is `stateOf`.
+pub struct Columns {
+    pub c0: u32,
+    pub c1: u32,
+    pub c2: u32,
+    pub c3: u32,
+}
+
+// A block, or a round key, as words.
+pub fn columns_of(s: [u8; 16]) -> Columns
+    ensures { λ r. ⌜ stateOf r ≡ s ⌝ }
 {
-    let mut t = s;
-    let mut i: usize = 0;
-    while i < 16 {
-        t[i] = table[s[i] as usize];
-        i += 1;
+    Columns {
+        c0: column::word_at(s, 0),
+        c1: column::word_at(s, 4),
+        c2: column::word_at(s, 8),
+        c3: column::word_at(s, 12),
     }
-    t
 }
 
-fn shift_rows(s: [u8; 16]) -> [u8; 16]
-    ensures { λ r. ⌜ r ≡ shiftRows s ⌝ }
+// The bytes that four words mean. Each divisor is 256, so that a byte stands here as its definition has it; the compiler makes one shift of them.
+pub fn bytes_of(s: Columns) -> [u8; 16]
+    ensures { λ r. ⌜ r ≡ stateOf s ⌝ }
 {
     [
-        s[0],
-        s[5],
-        s[10],
-        s[15],
-        s[4],
-        s[9],
-        s[14],
-        s[3],
-        s[8],
-        s[13],
-        s[2],
-        s[7],
-        s[12],
-        s[1],
-        s[6],
-        s[11],
+        (s.c0 % 256) as u8,
+        (s.c0 / 256 % 256) as u8,
+        (s.c0 / 256 / 256 % 256) as u8,
+        (s.c0 / 256 / 256 / 256 % 256) as u8,
+        (s.c1 % 256) as u8,
+        (s.c1 / 256 % 256) as u8,
+        (s.c1 / 256 / 256 % 256) as u8,
+        (s.c1 / 256 / 256 / 256 % 256) as u8,
+        (s.c2 % 256) as u8,
+        (s.c2 / 256 % 256) as u8,
+        (s.c2 / 256 / 256 % 256) as u8,
+        (s.c2 / 256 / 256 / 256 % 256) as u8,
+        (s.c3 % 256) as u8,
+        (s.c3 / 256 % 256) as u8,
+        (s.c3 / 256 / 256 % 256) as u8,
+        (s.c3 / 256 / 256 / 256 % 256) as u8,
     ]
 }
 
-fn inv_shift_rows(s: [u8; 16]) -> [u8; 16]
-    ensures { λ r. ⌜ r ≡ invShiftRows s ⌝ }
+// MIXCOLUMNS.
+pub fn mix_columns(s: Columns) -> Columns
+    ensures { λ r. ⌜ stateOf r ≡ mixColumns (stateOf s) ⌝ }
 {
-    [
-        s[0],
-        s[13],
-        s[10],
-        s[7],
-        s[4],
-        s[1],
-        s[14],
-        s[11],
-        s[8],
-        s[5],
-        s[2],
-        s[15],
-        s[12],
-        s[9],
-        s[6],
-        s[3],
-    ]
+    Columns {
+        c0: column::mix(s.c0),
+        c1: column::mix(s.c1),
+        c2: column::mix(s.c2),
+        c3: column::mix(s.c3),
+    }
 }
 
-// Written out, with each byte read once: a loop over the columns costs four times the instructions.
-fn mix_columns(s: [u8; 16]) -> [u8; 16]
-    ensures { λ r. ⌜ r ≡ mixColumns s ⌝ }
+// INVMIXCOLUMNS.
+pub fn inv_mix_columns(s: Columns) -> Columns
+    ensures { λ r. ⌜ stateOf r ≡ invMixColumns (stateOf s) ⌝ }
 {
-    let s0 = s[0];
-    let s1 = s[1];
-    let s2 = s[2];
-    let s3 = s[3];
-    let s4 = s[4];
-    let s5 = s[5];
-    let s6 = s[6];
-    let s7 = s[7];
-    let s8 = s[8];
-    let s9 = s[9];
-    let s10 = s[10];
-    let s11 = s[11];
-    let s12 = s[12];
-    let s13 = s[13];
-    let s14 = s[14];
-    let s15 = s[15];
-    [
-        field::mix_row(s0, s1, s2, s3),
-        field::mix_row(s1, s2, s3, s0),
-        field::mix_row(s2, s3, s0, s1),
-        field::mix_row(s3, s0, s1, s2),
-        field::mix_row(s4, s5, s6, s7),
-        field::mix_row(s5, s6, s7, s4),
-        field::mix_row(s6, s7, s4, s5),
-        field::mix_row(s7, s4, s5, s6),
-        field::mix_row(s8, s9, s10, s11),
-        field::mix_row(s9, s10, s11, s8),
-        field::mix_row(s10, s11, s8, s9),
-        field::mix_row(s11, s8, s9, s10),
-        field::mix_row(s12, s13, s14, s15),
-        field::mix_row(s13, s14, s15, s12),
-        field::mix_row(s14, s15, s12, s13),
-        field::mix_row(s15, s12, s13, s14),
-    ]
+    Columns {
+        c0: column::inv_mix(s.c0),
+        c1: column::inv_mix(s.c1),
+        c2: column::inv_mix(s.c2),
+        c3: column::inv_mix(s.c3),
+    }
 }
 
-fn inv_mix_columns(s: [u8; 16]) -> [u8; 16]
-    ensures { λ r. ⌜ r ≡ invMixColumns s ⌝ }
+// ADDROUNDKEY: the round key is a row of sixteen bytes.
+pub fn add_round_key(s: Columns, key: [u8; 16]) -> Columns
+    ensures { λ r. ⌜ stateOf r ≡ addRoundKey (stateOf s) key ⌝ }
 {
-    let s0 = s[0];
-    let s1 = s[1];
-    let s2 = s[2];
-    let s3 = s[3];
-    let s4 = s[4];
-    let s5 = s[5];
-    let s6 = s[6];
-    let s7 = s[7];
-    let s8 = s[8];
-    let s9 = s[9];
-    let s10 = s[10];
-    let s11 = s[11];
-    let s12 = s[12];
-    let s13 = s[13];
-    let s14 = s[14];
-    let s15 = s[15];
-    [
-        field::inv_mix_row(s0, s1, s2, s3),
-        field::inv_mix_row(s1, s2, s3, s0),
-        field::inv_mix_row(s2, s3, s0, s1),
-        field::inv_mix_row(s3, s0, s1, s2),
-        field::inv_mix_row(s4, s5, s6, s7),
-        field::inv_mix_row(s5, s6, s7, s4),
-        field::inv_mix_row(s6, s7, s4, s5),
-        field::inv_mix_row(s7, s4, s5, s6),
-        field::inv_mix_row(s8, s9, s10, s11),
-        field::inv_mix_row(s9, s10, s11, s8),
-        field::inv_mix_row(s10, s11, s8, s9),
-        field::inv_mix_row(s11, s8, s9, s10),
-        field::inv_mix_row(s12, s13, s14, s15),
-        field::inv_mix_row(s13, s14, s15, s12),
-        field::inv_mix_row(s14, s15, s12, s13),
-        field::inv_mix_row(s15, s12, s13, s14),
-    ]
+    let k = columns_of(key);
+    Columns {
+        c0: s.c0 ^ k.c0,
+        c1: s.c1 ^ k.c1,
+        c2: s.c2 ^ k.c2,
+        c3: s.c3 ^ k.c3,
+    }
+}
+
+// The exclusive or of two blocks of bytes, by words too.
+pub fn xor_block(a: [u8; 16], b: [u8; 16]) -> [u8; 16]
+    ensures { λ r. ⌜ r ≡ xorBlock a b ⌝ }
+{
+    let words = columns_of(a);
+    let sum = add_round_key(words, b);
+    bytes_of(sum)
+}
+
+// The column whose byte i is the table's entry for byte i of the i-th word.
+fn looked_up(table: &[u8; 256], a: u32, b: u32, c: u32, d: u32) -> u32
+    ensures { λ r. ⌜ r ≡ word (getD (now (table .entry)) (byteAt a 0) 0) (getD (now (table .entry)) (byteAt b 1) 0) (getD (now (table .entry)) (byteAt c 2) 0) (getD (now (table .entry)) (byteAt d 3) 0) ⌝ }
+{
+    column::word(
+        table[(a % 256) as usize],
+        table[(b / 256 % 256) as usize],
+        table[(c / 256 / 256 % 256) as usize],
+        table[(d / 256 / 256 / 256 % 256) as usize],
+    )
+}
+
+// SUBBYTES and SHIFTROWS: row r of a column comes from the r-th column behind it.
+fn sub_shift(table: &[u8; 256], s: Columns) -> Columns
+    requires { ⌜ now table ≡ sboxTable ⌝ }
+    ensures { λ r. ⌜ stateOf r ≡ shiftRows (subBytes (stateOf s)) ⌝ }
+{
+    Columns {
+        c0: looked_up(table, s.c0, s.c1, s.c2, s.c3),
+        c1: looked_up(table, s.c1, s.c2, s.c3, s.c0),
+        c2: looked_up(table, s.c2, s.c3, s.c0, s.c1),
+        c3: looked_up(table, s.c3, s.c0, s.c1, s.c2),
+    }
+}
+
+// INVSHIFTROWS and INVSUBBYTES: from the r-th column before it.
+fn inv_shift_sub(table: &[u8; 256], s: Columns) -> Columns
+    requires { ⌜ now table ≡ invTable ⌝ }
+    ensures { λ r. ⌜ stateOf r ≡ invSubBytes (invShiftRows (stateOf s)) ⌝ }
+{
+    Columns {
+        c0: looked_up(table, s.c0, s.c3, s.c2, s.c1),
+        c1: looked_up(table, s.c1, s.c0, s.c3, s.c2),
+        c2: looked_up(table, s.c2, s.c1, s.c0, s.c3),
+        c3: looked_up(table, s.c3, s.c2, s.c1, s.c0),
+    }
 }
 
 // One round, with the byte table that is lent.
-pub fn round(table: &[u8; 256], s: [u8; 16], key: [u8; 16]) -> [u8; 16]
+pub fn round(table: &[u8; 256], s: Columns, key: [u8; 16]) -> Columns
     requires { ⌜ now table ≡ sboxTable ⌝ }
-    ensures { λ r. ⌜ r ≡ round s key ⌝ }
+    ensures { λ r. ⌜ stateOf r ≡ round (stateOf s) key ⌝ }
 {
-    octets::xor_block(mix_columns(shift_rows(substitute(table, s))), key)
+    let shifted = sub_shift(table, s);
+    let mixed = mix_columns(shifted);
+    add_round_key(mixed, key)
 }
 
-pub fn last_round(table: &[u8; 256], s: [u8; 16], key: [u8; 16]) -> [u8; 16]
+pub fn last_round(table: &[u8; 256], s: Columns, key: [u8; 16]) -> Columns
     requires { ⌜ now table ≡ sboxTable ⌝ }
-    ensures { λ r. ⌜ r ≡ lastRound s key ⌝ }
+    ensures { λ r. ⌜ stateOf r ≡ lastRound (stateOf s) key ⌝ }
 {
-    octets::xor_block(shift_rows(substitute(table, s)), key)
+    let shifted = sub_shift(table, s);
+    add_round_key(shifted, key)
 }
 
-pub fn inv_round(table: &[u8; 256], s: [u8; 16], key: [u8; 16]) -> [u8; 16]
+pub fn inv_round(table: &[u8; 256], s: Columns, key: [u8; 16]) -> Columns
     requires { ⌜ now table ≡ invTable ⌝ }
-    ensures { λ r. ⌜ r ≡ invRound s key ⌝ }
+    ensures { λ r. ⌜ stateOf r ≡ invRound (stateOf s) key ⌝ }
 {
-    inv_mix_columns(octets::xor_block(substitute(table, inv_shift_rows(s)), key))
+    let restored = inv_shift_sub(table, s);
+    let added = add_round_key(restored, key);
+    inv_mix_columns(added)
 }
 
-pub fn inv_last_round(table: &[u8; 256], s: [u8; 16], key: [u8; 16]) -> [u8; 16]
+pub fn inv_last_round(table: &[u8; 256], s: Columns, key: [u8; 16]) -> Columns
     requires { ⌜ now table ≡ invTable ⌝ }
-    ensures { λ r. ⌜ r ≡ invLastRound s key ⌝ }
+    ensures { λ r. ⌜ stateOf r ≡ invLastRound (stateOf s) key ⌝ }
 {
-    octets::xor_block(substitute(table, inv_shift_rows(s)), key)
+    let restored = inv_shift_sub(table, s);
+    add_round_key(restored, key)
 }

@@ -4,13 +4,15 @@ use mathlib.Core.Path.{_≡_, refl, ap, _∙_, sym}
 use mathlib.Core.List.{List, []}
 use lib.ListN.{getD}
 use native.Mathlib.Omega.{arith}
+use Rattle.rounds.specs.Columns.{stateOf}
+use Rattle.rounds.specs.Cipher.{addRoundKey}
 use Rattle.rounds.specs.InvCipher.{invRounds, invRound, invLastRound, invCipher}
 use borrow.Author.Needs.{needs}
 use Rattle.aes.proofs.decipher.Statement.{statement}
 use Rattle.aes.proofs.decipher.Tie as tie
 
 abbrev Inv-loop : tie.InvT-loop
-Inv-loop w table t₀ i₀ t i = (i ≤ 9) × (invRounds w i t ≡ invRounds w 9 t₀)
+Inv-loop w table t₀ i₀ t i = (i ≤ 9) × (invRounds w i (stateOf t) ≡ invRounds w 9 (stateOf t₀))
 
 abbrev μ-loop : tie.MeasureT-loop
 μ-loop w table t₀ i₀ t i = i
@@ -18,11 +20,14 @@ abbrev μ-loop : tie.MeasureT-loop
 inv-byte-table-requires : tie.Need-inv-byte-table-requires Inv-loop μ-loop
 inv-byte-table-requires c κs = search needs
 
-element-copy-out-xor-block : tie.Need-element-copy-out-xor-block Inv-loop μ-loop
-element-copy-out-xor-block c = search needs
+columns-of-requires : tie.Need-columns-of-requires Inv-loop μ-loop
+columns-of-requires c κs = search needs
 
-xor-block-requires : tie.Need-xor-block-requires Inv-loop μ-loop
-xor-block-requires c κs = search needs
+element-copy-out-add-round-key : tie.Need-element-copy-out-add-round-key Inv-loop μ-loop
+element-copy-out-add-round-key c = search needs
+
+add-round-key-requires : tie.Need-add-round-key-requires Inv-loop μ-loop
+add-round-key-requires c κs = search needs
 
 loop-holds : tie.Need-loop-holds Inv-loop μ-loop
 loop-holds c = (search needs, refl)
@@ -34,7 +39,7 @@ element-copy-out-inv-round : tie.Need-element-copy-out-inv-round Inv-loop μ-loo
 element-copy-out-inv-round c = search needs
 
 inv-round-requires : tie.Need-inv-round-requires Inv-loop μ-loop
-inv-round-requires c κs = c .before .before .before .before .before .before .inv-byte-table .ensures
+inv-round-requires c κs = c .before .before .before .before .before .before .before .inv-byte-table .ensures
 
 sub-i : tie.Need-sub-i Inv-loop μ-loop
 sub-i c = search needs
@@ -46,11 +51,11 @@ loop-again : tie.Need-loop-again Inv-loop μ-loop
 unfolding invRounds
 loop-again c =
     let l = c .before .before .before .before .loop in
-    let w = c .before .before .before .before .before .before .before .before .args .w .now in
+    let w = c .before .before .before .before .before .before .before .before .before .args .w .now in
     let e : l .i ≡ suc (l .i - 1) = omega arith in (
       omega arith,
-      ap (invRounds w (l .i - 1)) (c .inv-round .ensures ∙ ap (λ (n : ℕ). invRound (l .t) (getD w n [])) e)
-          ∙ ap (λ (n : ℕ). invRounds w n (l .t)) (sym e)
+      ap (invRounds w (l .i - 1)) (c .inv-round .ensures ∙ ap (λ (n : ℕ). invRound (stateOf (l .t)) (getD w n [])) e)
+          ∙ ap (λ (n : ℕ). invRounds w n (stateOf (l .t))) (sym e)
           ∙ l .inv .1,
     )
 
@@ -58,17 +63,24 @@ element-copy-out-inv-last-round : tie.Need-element-copy-out-inv-last-round Inv-l
 element-copy-out-inv-last-round c = search needs
 
 inv-last-round-requires : tie.Need-inv-last-round-requires Inv-loop μ-loop
-inv-last-round-requires c κs = c .before .before .before .before .before .before .inv-byte-table .ensures
+inv-last-round-requires c κs = c .before .before .before .before .before .before .before .inv-byte-table .ensures
+
+bytes-of-requires : tie.Need-bytes-of-requires Inv-loop μ-loop
+bytes-of-requires c κs = search needs
 
 returns : tie.Need-returns Inv-loop μ-loop
 unfolding invCipher invRounds
 returns c =
-    let w = c .before .before .before .before .before .before .before .before .args .w .now in
-    let l = c .before .before .before .before .loop in
+    let w = c .before .before .before .before .before .before .before .before .before .before .args .w .now in
+    let l = c .before .before .before .before .before .loop in
+    let a = c .before .before .before .before .before .before in
     let none : 0 ≡ l .i = omega arith in
-    c .inv-last-round .ensures
+    let first : stateOf (a .add-round-key .result) ≡ addRoundKey (c .before .before .before .before .before .before .before .before .before .before .args .s) (getD w 10 []) =
+    a .add-round-key .ensures ∙ ap (λ (x : List ℕ). addRoundKey x (getD w 10 [])) (a .before .before .columns-of .ensures) in
+    c .bytes-of .ensures
+    ∙ c .before .inv-last-round .ensures
     ∙ ap (λ (x : List ℕ). invLastRound x (getD w 0 []))
-    (ap (λ (n : ℕ). invRounds w n (l .t)) none ∙ l .inv .1 ∙ ap (invRounds w 9) (c .before .before .before .before .before .xor-block .ensures))
+    (ap (λ (n : ℕ). invRounds w n (stateOf (l .t))) none ∙ l .inv .1 ∙ ap (invRounds w 9) first)
 
 pub decipher-spec : {M : Type 1} → statement M
 decipher-spec =
@@ -77,8 +89,9 @@ decipher-spec =
     Inv-loop
     μ-loop
     inv-byte-table-requires
-    element-copy-out-xor-block
-    xor-block-requires
+    columns-of-requires
+    element-copy-out-add-round-key
+    add-round-key-requires
     loop-holds
     mul-inv-round
     element-copy-out-inv-round
@@ -88,4 +101,5 @@ decipher-spec =
     loop-again
     element-copy-out-inv-last-round
     inv-last-round-requires
+    bytes-of-requires
     returns)

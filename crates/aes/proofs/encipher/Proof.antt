@@ -5,13 +5,14 @@ use mathlib.Core.List.{List, []}
 use lib.ListN.{getD}
 use native.Mathlib.Omega.{arith}
 use native.Mathlib.Numerals.{add-one}
-use Rattle.rounds.specs.Cipher.{rounds, round, lastRound, cipher}
+use Rattle.rounds.specs.Columns.{stateOf}
+use Rattle.rounds.specs.Cipher.{addRoundKey, rounds, round, lastRound, cipher}
 use borrow.Author.Needs.{needs}
 use Rattle.aes.proofs.encipher.Statement.{statement}
 use Rattle.aes.proofs.encipher.Tie as tie
 
 abbrev Inv-loop : tie.InvT-loop
-Inv-loop w table t₀ i₀ t i = (i ≤ 9) × (t ≡ rounds w i t₀)
+Inv-loop w table t₀ i₀ t i = (i ≤ 9) × (stateOf t ≡ rounds w i (stateOf t₀))
 
 abbrev μ-loop : tie.MeasureT-loop
 μ-loop w table t₀ i₀ t i = 9 - i
@@ -19,11 +20,14 @@ abbrev μ-loop : tie.MeasureT-loop
 byte-table-requires : tie.Need-byte-table-requires Inv-loop μ-loop
 byte-table-requires c κs = search needs
 
-element-copy-out-xor-block : tie.Need-element-copy-out-xor-block Inv-loop μ-loop
-element-copy-out-xor-block c = search needs
+columns-of-requires : tie.Need-columns-of-requires Inv-loop μ-loop
+columns-of-requires c κs = search needs
 
-xor-block-requires : tie.Need-xor-block-requires Inv-loop μ-loop
-xor-block-requires c κs = search needs
+element-copy-out-add-round-key : tie.Need-element-copy-out-add-round-key Inv-loop μ-loop
+element-copy-out-add-round-key c = search needs
+
+add-round-key-requires : tie.Need-add-round-key-requires Inv-loop μ-loop
+add-round-key-requires c κs = search needs
 
 loop-holds : tie.Need-loop-holds Inv-loop μ-loop
 unfolding rounds
@@ -39,7 +43,7 @@ element-copy-out-round : tie.Need-element-copy-out-round Inv-loop μ-loop
 element-copy-out-round c = search needs
 
 round-requires : tie.Need-round-requires Inv-loop μ-loop
-round-requires c κs = c .before .before .before .before .before .before .byte-table .ensures
+round-requires c κs = c .before .before .before .before .before .before .before .byte-table .ensures
 
 loop-less : tie.Need-loop-less Inv-loop μ-loop
 loop-less c = search needs
@@ -48,8 +52,8 @@ loop-again : tie.Need-loop-again Inv-loop μ-loop
 unfolding rounds
 loop-again c =
     let l = c .before .before .before .before .loop in
-    let w = c .before .before .before .before .before .before .before .before .args .w .now in
-    let z = c .before .before .before .before .before .xor-block .result in (
+    let w = c .before .before .before .before .before .before .before .before .before .args .w .now in
+    let z = stateOf (c .before .before .before .before .before .add-round-key .result) in (
       omega arith,
       c .round .ensures
           ∙ ap (λ (x : List ℕ). round x (getD w (l .i + 1) [])) (l .inv .1)
@@ -61,17 +65,24 @@ element-copy-out-last-round : tie.Need-element-copy-out-last-round Inv-loop μ-l
 element-copy-out-last-round c = search needs
 
 last-round-requires : tie.Need-last-round-requires Inv-loop μ-loop
-last-round-requires c κs = c .before .before .before .before .before .before .byte-table .ensures
+last-round-requires c κs = c .before .before .before .before .before .before .before .byte-table .ensures
+
+bytes-of-requires : tie.Need-bytes-of-requires Inv-loop μ-loop
+bytes-of-requires c κs = search needs
 
 returns : tie.Need-returns Inv-loop μ-loop
 unfolding cipher
 returns c =
-    let w = c .before .before .before .before .before .before .before .before .args .w .now in
-    let l = c .before .before .before .before .loop in
+    let w = c .before .before .before .before .before .before .before .before .before .before .args .w .now in
+    let l = c .before .before .before .before .before .loop in
+    let a = c .before .before .before .before .before .before in
     let nine : l .i ≡ 9 = omega arith in
-    c .last-round .ensures
+    let first : stateOf (a .add-round-key .result) ≡ addRoundKey (c .before .before .before .before .before .before .before .before .before .before .args .s) (getD w 0 []) =
+    a .add-round-key .ensures ∙ ap (λ (x : List ℕ). addRoundKey x (getD w 0 [])) (a .before .before .columns-of .ensures) in
+    c .bytes-of .ensures
+    ∙ c .before .last-round .ensures
     ∙ ap (λ (x : List ℕ). lastRound x (getD w 10 []))
-    (l .inv .1 ∙ ap (λ (n : ℕ). rounds w n (c .before .before .before .before .before .xor-block .result)) nine ∙ ap (rounds w 9) (c .before .before .before .before .before .xor-block .ensures))
+    (l .inv .1 ∙ ap (λ (n : ℕ). rounds w n (stateOf (a .add-round-key .result))) nine ∙ ap (rounds w 9) first)
 
 pub encipher-spec : {M : Type 1} → statement M
 encipher-spec =
@@ -80,8 +91,9 @@ encipher-spec =
     Inv-loop
     μ-loop
     byte-table-requires
-    element-copy-out-xor-block
-    xor-block-requires
+    columns-of-requires
+    element-copy-out-add-round-key
+    add-round-key-requires
     loop-holds
     add-i
     mul-round
@@ -91,4 +103,5 @@ encipher-spec =
     loop-again
     element-copy-out-last-round
     last-round-requires
+    bytes-of-requires
     returns)

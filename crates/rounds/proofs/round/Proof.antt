@@ -1,44 +1,27 @@
 -- `rounds::round` meets its contract, step by step. Assumes nothing.
-use mathlib.Core.Path.{_≡_, ap, _∙_}
+use mathlib.Core.Path.{ap, _∙_}
 use mathlib.Core.List.{List}
-use Prim.Native.Nat.{ℕ, _<_}
-use mir.Syntax.{w8}
-use mir.Val.{Fits}
-use lib.ListN.{getD}
-use Rattle.rounds.specs.Tables.{substituted, sub-by-table}
-use Rattle.rounds.specs.Cipher.{subBytes, shiftRows, mixColumns, addRoundKey, round}
+use Prim.Native.Nat.{ℕ}
+use Rattle.rounds.specs.Cipher.{mixColumns, addRoundKey, round}
 use borrow.Author.Needs.{needs}
 use Rattle.rounds.proofs.round.Statement.{statement}
 use Rattle.rounds.proofs.round.Tie as tie
 
-substitute-requires : tie.Need-substitute-requires
-substitute-requires c κs = search needs
-
-shift-rows-requires : tie.Need-shift-rows-requires
-shift-rows-requires c κs = search needs
+sub-shift-requires : tie.Need-sub-shift-requires
+sub-shift-requires c κs = search needs
 
 mix-columns-requires : tie.Need-mix-columns-requires
 mix-columns-requires c κs = search needs
 
-xor-block-requires : tie.Need-xor-block-requires
-xor-block-requires c κs = search needs
+add-round-key-requires : tie.Need-add-round-key-requires
+add-round-key-requires c κs = search needs
 
 returns : tie.Need-returns
 unfolding round
 returns c =
-    let a = c .before .before .before .before .args in
-    let b : (i : ℕ) → i < 16 → getD (a .s) i 0 < 256 = λ i h. let f : Fits w8 (getD (a .s) i 0) = search needs in f .fits in
-    let sub : c .before .before .before .substitute .result ≡ subBytes (a .s) =
-    c .before .before .before .substitute .ensures ∙ ap (λ (t : List ℕ). substituted t (a .s)) (c .before .before .before .before .pre) ∙ sub-by-table (a .s) b in
-    c .xor-block .ensures
-    ∙ ap (λ (x : List ℕ). addRoundKey x (a .key)) (c .before .mix-columns .ensures ∙ ap mixColumns (c .before .before .shift-rows .ensures ∙ ap shiftRows sub))
+    c .add-round-key .ensures
+    ∙ ap (λ (x : List ℕ). addRoundKey x (c .before .before .before .args .key)) (c .before .mix-columns .ensures ∙ ap mixColumns (c .before .before .sub-shift .ensures))
 
 pub round-spec : {M : Type 1} → statement M
 round-spec =
-    tie.close
-    (tie.spec
-    substitute-requires
-    shift-rows-requires
-    mix-columns-requires
-    xor-block-requires
-    returns)
+    tie.close (tie.spec sub-shift-requires mix-columns-requires add-round-key-requires returns)

@@ -1,0 +1,4 @@
+pub mod Word
+pub mod Laws
+pub mod Rows
+pub mod Mixing
