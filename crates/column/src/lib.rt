@@ -3,7 +3,7 @@ ghost use mathlib.Core.Path.{_≡_};
 ghost use Prim.Native.Nat.{_+_, _≤_};
 ghost use lib.ListN.{getD};
 ghost use Rattle.field.specs.Field.{xTimes};
-ghost use Rattle.column.specs.Word.{word, wordOf, byteAt, turned, wordTimes};
+ghost use Rattle.column.specs.Word.{word, wordOf, byteAt, put, turned, wordTimes};
 
 // Four bytes as a word, the first in the low bits.
 pub fn word(a: u8, b: u8, c: u8, d: u8) -> u32
@@ -18,6 +18,20 @@ pub fn word_at(s: [u8; 16], at: usize) -> u32
     ensures { λ r. ⌜ r ≡ word (getD s at 0) (getD s (at + 1) 0) (getD s (at + 2) 0) (getD s (at + 3) 0) ⌝ }
 {
     word(s[at], s[at + 1], s[at + 2], s[at + 3])
+}
+
+// The four bytes of a word, written over a block from a place on. Each divisor is 256, so that a byte stands here as its definition has it;
+// the compiler makes one shift of them.
+pub fn put(b: [u8; 16], at: usize, w: u32) -> [u8; 16]
+    requires { ⌜ at + 4 ≤ 16 ⌝ }
+    ensures { λ r. ⌜ r ≡ put b at w ⌝ }
+{
+    let mut t = b;
+    t[at] = (w % 256) as u8;
+    t[at + 1] = (w / 256 % 256) as u8;
+    t[at + 2] = (w / 256 / 256 % 256) as u8;
+    t[at + 3] = (w / 256 / 256 / 256 % 256) as u8;
+    t
 }
 
 // The bytes turned one place: byte 1 first.

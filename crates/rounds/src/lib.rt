@@ -28,28 +28,14 @@ pub fn columns_of(s: [u8; 16]) -> Columns
     }
 }
 
-// The bytes that four words mean. Each divisor is 256, so that a byte stands here as its definition has it; the compiler makes one shift of them.
+// The bytes that four words mean.
 pub fn bytes_of(s: Columns) -> [u8; 16]
     ensures { λ r. ⌜ r ≡ stateOf s ⌝ }
 {
-    [
-        (s.c0 % 256) as u8,
-        (s.c0 / 256 % 256) as u8,
-        (s.c0 / 256 / 256 % 256) as u8,
-        (s.c0 / 256 / 256 / 256 % 256) as u8,
-        (s.c1 % 256) as u8,
-        (s.c1 / 256 % 256) as u8,
-        (s.c1 / 256 / 256 % 256) as u8,
-        (s.c1 / 256 / 256 / 256 % 256) as u8,
-        (s.c2 % 256) as u8,
-        (s.c2 / 256 % 256) as u8,
-        (s.c2 / 256 / 256 % 256) as u8,
-        (s.c2 / 256 / 256 / 256 % 256) as u8,
-        (s.c3 % 256) as u8,
-        (s.c3 / 256 % 256) as u8,
-        (s.c3 / 256 / 256 % 256) as u8,
-        (s.c3 / 256 / 256 / 256 % 256) as u8,
-    ]
+    let one = column::put([0u8; 16], 0, s.c0);
+    let two = column::put(one, 4, s.c1);
+    let three = column::put(two, 8, s.c2);
+    column::put(three, 12, s.c3)
 }
 
 // MIXCOLUMNS.
