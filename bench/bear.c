@@ -3,6 +3,10 @@
  * one's result, and the last result written in hexadecimal.
  *
  * bear small|big OPERATION TIMES. SHA-256 is the same for both.
+ *
+ * The operation parts-LIST is BearSSL's part of a command, one behind the other: x and y expand a key to encipher and to
+ * decipher, eN and dN encipher and decipher N blocks in CBC, hN hashes N bytes. Beside BearSSL's functions that takes some
+ * ten instructions a part.
  */
 #include <bearssl.h>
 #include <stdio.h>
@@ -73,14 +77,56 @@ static void expand_inverse(unsigned char *key, long times)
 	}
 }
 
-static void sha256(unsigned char *text, long times)
+/* Each digest goes over the text's first 32 bytes. */
+static void sha256(unsigned char *text, size_t len, long times)
 {
 	while (times-- > 0) {
 		br_sha256_context ctx;
 		br_sha256_init(&ctx);
-		br_sha256_update(&ctx, text, 32);
+		br_sha256_update(&ctx, text, len);
 		br_sha256_out(&ctx, text);
 	}
+}
+
+static void part(char what, unsigned char *text, size_t n)
+{
+	static const unsigned char key[16];
+	static br_aes_gen_cbcenc_keys to_encipher;
+	static br_aes_gen_cbcdec_keys to_decipher;
+	unsigned char iv[16] = { 0 };
+	switch (what) {
+	case 'x':
+		enc->init(&to_encipher.vtable, key, 16);
+		break;
+	case 'y':
+		dec->init(&to_decipher.vtable, key, 16);
+		break;
+	case 'e':
+		enc->run(&to_encipher.vtable, iv, text, 16 * n);
+		break;
+	case 'd':
+		dec->run(&to_decipher.vtable, iv, text, 16 * n);
+		break;
+	case 'h':
+		sha256(text, n, 1);
+		break;
+	}
+}
+
+static void parts(const char *list, unsigned char *text, long times)
+{
+	char what[32];
+	size_t of[32];
+	int count = 0;
+	while (*list && count < 32) {
+		char *end;
+		what[count] = *list++;
+		of[count++] = strtoul(list, &end, 10);
+		list = end;
+	}
+	while (times-- > 0)
+		for (int i = 0; i < count; i++)
+			part(what[i], text, of[i]);
 }
 
 int main(int argc, char **argv)
@@ -88,7 +134,7 @@ int main(int argc, char **argv)
 	static const char zero[] = "00000000000000000000000000000000";
 	static const char key_a1[] = "2b7e151628aed2a6abf7158809cf4f3c";
 	static const char key_c1[] = "000102030405060708090a0b0c0d0e0f";
-	unsigned char text[64];
+	unsigned char text[1024] = { 0 };
 	size_t len = 16;
 	if (argc != 4)
 		return 2;
@@ -109,10 +155,11 @@ int main(int argc, char **argv)
 	} else if (strcmp(op, "expand-inverse") == 0) {
 		unhex(text, key_a1);
 		expand_inverse(text, times);
-	} else if (strcmp(op, "sha256") == 0) {
+	} else if (strncmp(op, "sha256-", 7) == 0) {
 		len = 32;
-		unhex(text, "09fc1accc230a205e4a208e64a8f204291f581a12756392da4b8c0cf5ef02b95");
-		sha256(text, times);
+		sha256(text, strtoul(op + 7, NULL, 10) % 1025, times);
+	} else if (strncmp(op, "parts-", 6) == 0) {
+		parts(op + 6, text, times);
 	} else if (strcmp(op, "cbc-encipher") == 0) {
 		len = 64;
 		unhex(text, "6bc1bee22e409f96e93d7e117393172aae2d8a571e03ac9c9eb76fac45af8e51"

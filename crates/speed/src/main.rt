@@ -3,7 +3,8 @@
 //
 // Each operation starts from a published example, so that what one time gives is that example's result: FIPS 197 C.1 for
 // encipher and decipher, FIPS 197 A.1 for expand (the last round key), SP 800-38A F.2.1 and F.2.2 for the two of CBC (four
-// blocks), and NIST's short message of 256 bits for sha256.
+// blocks). sha256-N is of N bytes, which are zeros the first time; each digest then goes over the first 32.
+ghost use Prim.Native.Nat.{_≤_};
 
 // The block that 32 hexadecimal digits say.
 fn block(digits: &[u8]) -> [u8; 16] {
@@ -57,39 +58,38 @@ fn expand(times: usize) -> [u8; 16] {
     k
 }
 
-fn digest(m: [u8; 32]) -> [u8; 32] {
-    sha256::digest(&m)
-}
-
-fn hash(message: [u8; 32], times: usize) -> [u8; 32] {
-    let mut d = message;
-    let mut i = 0;
+// SHA-256 of n bytes, at least once. Two calls, and a length that only the run knows, so that the operation stays a function, as in firmware.
+fn hash(n: usize, times: usize) -> [u8; 32]
+    requires { ⌜ n ≤ 1024 ⌝ }
+{
+    let mut text = [0u8; 1024];
+    let mut d = sha256::digest(&text[..n]);
+    let mut i = 1;
     while i < times {
-        let next = digest(d);
+        octets::copy_at(&mut text, 0, &d);
+        let next = sha256::digest(&text[..n]);
         d = next;
         i += 1;
     }
     d
 }
 
-fn show_hash(times: usize) {
-    let mut m = [0u8; 32];
-    rsp::hex(
-        b"09fc1accc230a205e4a208e64a8f204291f581a12756392da4b8c0cf5ef02b95",
-        0,
-        &mut m,
-    );
-    let d = hash(m, times);
-    show(&d);
+fn show_hash(n: usize, times: usize) {
+    if n <= 1024 {
+        let d = hash(n, times);
+        show(&d);
+    } else {
+        rsp::say(b"no such length\n");
+    }
 }
 
-// CBC on `text` in place. The sum is handed on from one time to the next.
+// CBC on `text` in place, at least once, by two calls as above. The sum is handed on from one time to the next.
 fn chain(text: &mut [u8], is_inverse: bool, times: usize) -> u32 {
     let key = block(b"2b7e151628aed2a6abf7158809cf4f3c");
     let start = block(b"000102030405060708090a0b0c0d0e0f");
     let w = aes::expand(key);
-    let mut sum: u32 = 0;
-    let mut i = 0;
+    let mut sum = chain_once(&key, &w, start, text, is_inverse, 0);
+    let mut i = 1;
     while i < times {
         sum = chain_once(&key, &w, start, text, is_inverse, sum);
         i += 1;
@@ -115,10 +115,12 @@ fn chain_once(
 // `digits` are those of four blocks. The sum goes to standard error, so that it has to be made.
 fn show_chain(digits: &[u8], is_inverse: bool, times: usize) {
     let mut text = [0u8; 64];
-    rsp::hex(digits, 0, &mut text);
-    let sum = chain(&mut text, is_inverse, times);
-    io::print_decimal(2, sum as u64);
-    show(&text);
+    let n = rsp::hex(digits, 0, &mut text);
+    if n <= 64 {
+        let sum = chain(&mut text[..n], is_inverse, times);
+        io::print_decimal(2, sum as u64);
+        show(&text[..n]);
+    }
 }
 
 fn operate(name: &[u8], times: usize) {
@@ -130,8 +132,8 @@ fn operate(name: &[u8], times: usize) {
         show_block(decipher(times));
     } else if check::same(name, b"expand") {
         show_block(expand(times));
-    } else if check::same(name, b"sha256") {
-        show_hash(times);
+    } else if rsp::starts(name, 0, b"sha256-") {
+        show_hash(rsp::decimal(name, 7), times);
     } else if check::same(name, b"cbc-encipher") {
         show_chain(
             b"6bc1bee22e409f96e93d7e117393172aae2d8a571e03ac9c9eb76fac45af8e5130c81c46a35ce411e5fbc1191a0a52eff69f2445df4f9b17ad2b417be66c3710",

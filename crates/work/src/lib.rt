@@ -1,6 +1,8 @@
-// The work sum over a command's steps, taken in a byte at a time.
+// The work sum over a command's steps.
 ghost use mathlib.Core.Path.{_≡_};
 ghost use mathlib.Core.List.{flatten};
+ghost use Prim.Native.Nat.{_/_, _%_};
+ghost use lib.ListN.{drop};
 ghost use Rattle.work.specs.Steps.{bytesOf, mixed, mixedAll};
 
 // One byte into the sum. The product fits 64 bits, and is then taken modulo 2^32.
@@ -10,16 +12,71 @@ pub fn mix(s: u32, b: u8) -> u32
     ((257 * (s as u64) + (b as u64) + 1) % 0x1_0000_0000) as u32
 }
 
-pub fn mix_all(s: u32, bytes: &[u8]) -> u32
-    ensures { λ r. ⌜ r ≡ mixedAll s (now (bytes .entry)) ⌝ }
+// The two bytes of a number, the high one first, at once.
+pub fn mix_two(s: u32, v: u16) -> u32
+    ensures { λ r. ⌜ r ≡ mixed (mixed s (v / 256)) (v % 256) ⌝ }
+{
+    ((66049 * (s as u64) + (v as u64) + ((v / 256) as u64) + 258) % 0x1_0000_0000) as u32
+}
+
+// The weights of sixteen bytes, 257^15 to 257^0, modulo 2^32.
+const WEIGHTS: [u64; 16] = [
+    3345551105,
+    1817906689,
+    508431617,
+    3695315969,
+    2771847937,
+    2016217601,
+    1411647745,
+    941361153,
+    588580609,
+    336528897,
+    168428801,
+    67503105,
+    16974593,
+    66049,
+    257,
+    1,
+];
+
+// Sixteen bytes at once, by their weights: s has 257^16, and 506492944 is the sixteen ones, weighed. Unrolled, a weight is an operand.
+pub fn mix_block(s: u32, b: [u8; 16]) -> u32
+    ensures { λ r. ⌜ r ≡ mixedAll s b ⌝ }
+{
+    let weights = WEIGHTS;
+    let mut sum = 813174785 * (s as u64) + 506492944;
+    let mut i: usize = 0;
+    while i < 16 {
+        sum += weights[i] * (b[i] as u64);
+        i += 1;
+    }
+    (sum % 0x1_0000_0000) as u32
+}
+
+// The bytes from a place on, one by one.
+fn mix_from(s: u32, bytes: &[u8], at: usize) -> u32
+    ensures { λ r. ⌜ r ≡ mixedAll s (drop at (now (bytes .entry))) ⌝ }
 {
     let mut sum = s;
-    let mut i = 0;
+    let mut i = at;
     while i < bytes.len() {
         sum = mix(sum, bytes[i]);
         i += 1;
     }
     sum
+}
+
+// Sixteens first, then the rest.
+pub fn mix_all(s: u32, bytes: &[u8]) -> u32
+    ensures { λ r. ⌜ r ≡ mixedAll s (now (bytes .entry)) ⌝ }
+{
+    let mut sum = s;
+    let mut i = 0;
+    while 16 <= bytes.len() - i {
+        sum = mix_block(sum, octets::block_at(bytes, i));
+        i += 16;
+    }
+    mix_from(sum, bytes, i)
 }
 
 // One step: its kind, key, input and output, in this order.
@@ -40,7 +97,7 @@ pub fn mix_rows(s: u32, rows: &[[u8; 16]; 11]) -> u32
     let mut sum = s;
     let mut row = 0;
     while row < list.len() {
-        sum = mix_all(sum, &list[row]);
+        sum = mix_block(sum, list[row]);
         row += 1;
     }
     sum

@@ -1,11 +1,11 @@
 -- `mix_all` meets its contract. The loop's law is that of Turns. Assumes nothing.
 use Prim.Native.Nat.{_≤_, _-_}
-use mathlib.Core.Path.{_≡_}
+use mathlib.Core.Path.{_≡_, ap, _∙_}
 use native.Mathlib.Omega.{arith}
-use borrow.Author.Needs.{needs}
 use lib.ListN.{length, drop}
 use Rattle.work.specs.Steps.{mixedAll}
-use Rattle.work.proofs.Turns.{bytes-turn, bytes-done}
+use Rattle.work.proofs.Turns.{blocks-turn}
+use borrow.Author.Needs.{needs}
 use Rattle.work.proofs.mix_all.Statement.{statement}
 use Rattle.work.proofs.mix_all.Tie as tie
 
@@ -18,11 +18,14 @@ abbrev μ-loop : tie.MeasureT-loop
 loop-holds : tie.Need-loop-holds Inv-loop μ-loop
 loop-holds c = search needs
 
-shared-slice-read-mix : tie.Need-shared-slice-read-mix Inv-loop μ-loop
-shared-slice-read-mix c = search needs
+sub-loop : tie.Need-sub-loop Inv-loop μ-loop
+sub-loop c = search needs
 
-mix-requires : tie.Need-mix-requires Inv-loop μ-loop
-mix-requires c κs = search needs
+block-at-requires : tie.Need-block-at-requires Inv-loop μ-loop
+block-at-requires c κs = search needs
+
+mix-block-requires : tie.Need-mix-block-requires Inv-loop μ-loop
+mix-block-requires c κs = search needs
 
 add-i : tie.Need-add-i Inv-loop μ-loop
 add-i c = search needs
@@ -32,11 +35,14 @@ loop-less c = search needs
 
 loop-again : tie.Need-loop-again Inv-loop μ-loop
 loop-again c =
-    let b = c .before .before in
-    (omega arith, bytes-turn _ _ _ _ _ (b .loop-test .taken) (c .mix .ensures) (b .before .loop .inv .1))
+    let l = c .before .before .before .loop in
+    (omega arith, blocks-turn _ (l .i) (l .sum) _ _ (c .mix-block .ensures ∙ ap (mixedAll (l .sum)) (c .before .block-at .ensures)) (l .inv .1))
+
+mix-from-requires : tie.Need-mix-from-requires Inv-loop μ-loop
+mix-from-requires c κs = search needs
 
 returns : tie.Need-returns Inv-loop μ-loop
-returns c = bytes-done _ _ _ _ (c .loop-test .left) (c .before .loop .inv .1)
+returns c = c .mix-from .ensures ∙ c .before .before .loop .inv .1
 
 pub mix-all-spec : {M : Type 1} → statement M
 mix-all-spec =
@@ -45,9 +51,11 @@ mix-all-spec =
     Inv-loop
     μ-loop
     loop-holds
-    shared-slice-read-mix
-    mix-requires
+    sub-loop
+    block-at-requires
+    mix-block-requires
     add-i
     loop-less
     loop-again
+    mix-from-requires
     returns)

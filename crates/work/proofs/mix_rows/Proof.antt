@@ -3,10 +3,10 @@ use Prim.Native.Nat.{_≤_, _-_}
 use mathlib.Core.Path.{_≡_}
 use mathlib.Core.List.{flatten}
 use native.Mathlib.Omega.{arith}
-use borrow.Author.Needs.{needs}
 use lib.ListN.{length, drop}
 use Rattle.work.specs.Steps.{mixedAll}
 use Rattle.work.proofs.Turns.{rows-turn, rows-done}
+use borrow.Author.Needs.{needs}
 use Rattle.work.proofs.mix_rows.Statement.{statement}
 use Rattle.work.proofs.mix_rows.Tie as tie
 
@@ -19,14 +19,14 @@ abbrev μ-loop : tie.MeasureT-loop
 loop-holds : tie.Need-loop-holds Inv-loop μ-loop
 loop-holds c = search needs
 
-mul-mix-all : tie.Need-mul-mix-all Inv-loop μ-loop
-mul-mix-all c = search needs
+mul-mix-block : tie.Need-mul-mix-block Inv-loop μ-loop
+mul-mix-block c = search needs
 
-shared-slice-element-mix-all : tie.Need-shared-slice-element-mix-all Inv-loop μ-loop
-shared-slice-element-mix-all c = search needs
+shared-slice-copy-out-mix-block : tie.Need-shared-slice-copy-out-mix-block Inv-loop μ-loop
+shared-slice-copy-out-mix-block c = search needs
 
-mix-all-requires : tie.Need-mix-all-requires Inv-loop μ-loop
-mix-all-requires c κs = search needs
+mix-block-requires : tie.Need-mix-block-requires Inv-loop μ-loop
+mix-block-requires c κs = search needs
 
 add-row : tie.Need-add-row Inv-loop μ-loop
 add-row c = search needs
@@ -36,8 +36,8 @@ loop-less c = search needs
 
 loop-again : tie.Need-loop-again Inv-loop μ-loop
 loop-again c =
-    let b = c .before .before .before in
-    (omega arith, rows-turn _ _ _ _ _ (b .loop-test .taken) (c .mix-all .ensures) (b .before .loop .inv .1))
+    let b = c .before .before in
+    (omega arith, rows-turn _ _ _ _ _ (b .loop-test .taken) (c .mix-block .ensures) (b .before .loop .inv .1))
 
 returns : tie.Need-returns Inv-loop μ-loop
 returns c = rows-done _ _ _ _ (c .loop-test .left) (c .before .loop .inv .1)
@@ -49,9 +49,9 @@ mix-rows-spec =
     Inv-loop
     μ-loop
     loop-holds
-    mul-mix-all
-    shared-slice-element-mix-all
-    mix-all-requires
+    mul-mix-block
+    shared-slice-copy-out-mix-block
+    mix-block-requires
     add-row
     loop-less
     loop-again
