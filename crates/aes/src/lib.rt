@@ -1,61 +1,59 @@
 //! AES-128 of FIPS 197: key expansion, and one block enciphered or deciphered.
+use rounds::Columns;
 ghost use mathlib.Core.Path.{_≡_};
+ghost use lib.ListN.{getD};
+ghost use lib.Bits.{bitXor};
 ghost use Rattle.sbox.specs.Rule.{sboxTable};
+ghost use Rattle.column.specs.Word.{word, byteAt};
+ghost use Rattle.rounds.specs.Columns.{stateOf};
 ghost use Rattle.rounds.specs.Cipher.{cipher};
 ghost use Rattle.rounds.specs.InvCipher.{invCipher};
 ghost use Rattle.aes.specs.KeyExpansion.{roundKeys};
 ghost use Rattle.aes.specs.Rows.{nextKey};
 
-// The round key after k, with the round constant x and the byte table that is lent.
-fn next_key(table: &[u8; 256], k: [u8; 16], x: u8) -> [u8; 16]
-    requires { ⌜ now table ≡ sboxTable ⌝ }
-    ensures { λ r. ⌜ r ≡ nextKey k x ⌝ }
+// SUBWORD(ROTWORD(w)) ⊕ Rcon, by the table that is lent, where x is the first byte of Rcon.
+fn rot_sub(table: &[u8; 256], w: u32, x: u8) -> u32
+    ensures { λ r. ⌜ r ≡ word (bitXor (getD (now (table .entry)) (byteAt w 1) 0) x) (getD (now (table .entry)) (byteAt w 2) 0) (getD (now (table .entry)) (byteAt w 3) 0) (getD (now (table .entry)) (byteAt w 0) 0) ⌝ }
 {
-    let a = k[0] ^ (table[k[13] as usize] ^ x);
-    let b = k[1] ^ table[k[14] as usize];
-    let c = k[2] ^ table[k[15] as usize];
-    let d = k[3] ^ table[k[12] as usize];
-    let e = k[4] ^ a;
-    let f = k[5] ^ b;
-    let g = k[6] ^ c;
-    let h = k[7] ^ d;
-    let i = k[8] ^ e;
-    let j = k[9] ^ f;
-    let l = k[10] ^ g;
-    let m = k[11] ^ h;
-    [
-        a,
-        b,
-        c,
-        d,
-        e,
-        f,
-        g,
-        h,
-        i,
-        j,
-        l,
-        m,
-        k[12] ^ i,
-        k[13] ^ j,
-        k[14] ^ l,
-        k[15] ^ m,
-    ]
+    column::word(
+        table[(w / 256 % 256) as usize] ^ x,
+        table[(w / 256 / 256 % 256) as usize],
+        table[(w / 256 / 256 / 256 % 256) as usize],
+        table[(w % 256) as usize],
+    )
 }
 
-// KEYEXPANSION: the eleven round keys, one a row.
+// The round key after s, with the round constant x, a word at a time.
+fn next_key(table: &[u8; 256], s: Columns, x: u8) -> Columns
+    requires { ⌜ now table ≡ sboxTable ⌝ }
+    ensures { λ r. ⌜ stateOf r ≡ nextKey (stateOf s) x ⌝ }
+{
+    let a = s.c0 ^ rot_sub(table, s.c3, x);
+    let b = s.c1 ^ a;
+    let c = s.c2 ^ b;
+    Columns {
+        c0: a,
+        c1: b,
+        c2: c,
+        c3: s.c3 ^ c,
+    }
+}
+
+// KEYEXPANSION: the eleven round keys, one a row. The last one stays in words for the next.
 pub fn expand(key: [u8; 16]) -> [[u8; 16]; 11]
     ensures { λ r. ⌜ r ≡ roundKeys 4 key ⌝ }
 {
     let table = sbox::byte_table();
     let mut w = [[0u8; 16]; 11];
     w[0] = key;
+    let mut last = rounds::columns_of(key);
     let mut x: u8 = 1;
     let mut i: usize = 0;
     while i < 10 {
-        let n = next_key(&table, w[i], x);
+        let n = next_key(&table, last, x);
         i += 1;
-        w[i] = n;
+        w[i] = rounds::bytes_of(n);
+        last = n;
         x = field::x_times(x);
     }
     w

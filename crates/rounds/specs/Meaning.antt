@@ -44,7 +44,7 @@ means {s} f h e₀ e₁ e₂ e₃ =
     column (suc (suc (suc (suc c)))) l = omega arith
 
 module _ (s : Columns) where
-  at-lt : (r c : ℕ) → cell (stateOf s) r c < 256
+  pub at-lt : (r c : ℕ) → cell (stateOf s) r c < 256
   at-lt r c = state-block s .byte (r + 4 * c)
 
   -- each column times a matrix: both mixings

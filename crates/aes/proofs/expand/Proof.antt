@@ -1,4 +1,5 @@
--- `aes::expand` meets its contract: after i turns the rows up to i are the round keys, and x is x^i. Assumes nothing.
+-- `aes::expand` meets its contract: after i turns the rows up to i are the round keys, the last one in words too, and x is x^i. Assumes
+-- nothing.
 use Prim.Native.Nat.{ℕ, _-_, _≤_, _<_, _+_}
 use mathlib.Core.Path.{_≡_, refl, ap, ap₂, _∙_, sym}
 use mathlib.Core.List.{List, []}
@@ -10,6 +11,7 @@ use native.Mathlib.Omega.{arith}
 use native.Mathlib.Numerals.{add-one}
 use Rattle.octets.specs.Lists.{tabled}
 use Rattle.field.specs.Field.{xTimes}
+use Rattle.rounds.specs.Columns.{stateOf}
 use Rattle.aes.specs.KeyExpansion.{power, keyExpansion, roundKey}
 use Rattle.aes.specs.Rows.{nextKey, next-row, first-row}
 use borrow.Author.Needs.{needs}
@@ -58,10 +60,10 @@ more {k} {w} {x} {y} {i} {v} q h e f =
     }
 
 abbrev Inv-loop : tie.InvT-loop
-Inv-loop table w₀ x₀ i₀ w x i = Keys (getD w₀ 0 []) w x i
+Inv-loop table w₀ last₀ x₀ i₀ w last x i = Keys (getD w₀ 0 []) w x i × (stateOf last ≡ getD w i [])
 
 abbrev μ-loop : tie.MeasureT-loop
-μ-loop table w₀ x₀ i₀ w x i = 10 - i
+μ-loop table w₀ last₀ x₀ i₀ w last x i = 10 - i
 
 byte-table-requires : tie.Need-byte-table-requires Inv-loop μ-loop
 byte-table-requires c κs = search needs
@@ -69,20 +71,20 @@ byte-table-requires c κs = search needs
 array-set-from-w : tie.Need-array-set-from-w Inv-loop μ-loop
 array-set-from-w c = search needs
 
+columns-of-requires : tie.Need-columns-of-requires Inv-loop μ-loop
+columns-of-requires c κs = search needs
+
 loop-holds : tie.Need-loop-holds Inv-loop μ-loop
-loop-holds c = none _ _ (search needs) (search needs) refl
-
-mul-next-key : tie.Need-mul-next-key Inv-loop μ-loop
-mul-next-key c = search needs
-
-array-copy-out-next-key : tie.Need-array-copy-out-next-key Inv-loop μ-loop
-array-copy-out-next-key c = search needs
+loop-holds c = (none _ _ (search needs) (search needs) refl, c .columns-of .ensures)
 
 next-key-requires : tie.Need-next-key-requires Inv-loop μ-loop
 next-key-requires c κs = c .before .before .before .before .byte-table .ensures
 
 add-i : tie.Need-add-i Inv-loop μ-loop
 add-i c = search needs
+
+bytes-of-requires : tie.Need-bytes-of-requires Inv-loop μ-loop
+bytes-of-requires c κs = search needs
 
 mul-w : tie.Need-mul-w Inv-loop μ-loop
 mul-w c = search needs
@@ -97,12 +99,17 @@ loop-less : tie.Need-loop-less Inv-loop μ-loop
 loop-less c = search needs
 
 loop-again : tie.Need-loop-again Inv-loop μ-loop
-loop-again c = more (c .before .before .before .before .before .loop .inv) (search needs) (c .before .next-key .ensures) (c .x-times .ensures)
+loop-again c =
+    let l = c .before .before .before .before .before .loop in
+    let v = c .before .bytes-of .ensures in (
+      more (l .inv .0) (search needs) (v ∙ c .before .before .next-key .ensures ∙ ap (λ (k : List ℕ). nextKey k (l .x)) (l .inv .1)) (c .x-times .ensures),
+      sym (getD-set-same (l .w) (l .i + 1) _ [] (omega (arith, l .inv .0 .long, l .inv .0 .near)) ∙ v),
+    )
 
 returns : tie.Need-returns Inv-loop μ-loop
 returns c =
-    let q = c .before .loop .inv in
-    tabled (roundKey (keyExpansion 4 (c .before .before .before .args .key))) 11 0 (c .before .loop .w) [] (omega (arith, q .long)) (λ n h. q .keys n (omega (arith, q .long)))
+    let q = c .before .loop .inv .0 in
+    tabled (roundKey (keyExpansion 4 (c .before .before .before .before .args .key))) 11 0 (c .before .loop .w) [] (omega (arith, q .long)) (λ n h. q .keys n (omega (arith, q .long)))
 
 pub expand-spec : {M : Type 1} → statement M
 expand-spec =
@@ -112,11 +119,11 @@ expand-spec =
     μ-loop
     byte-table-requires
     array-set-from-w
+    columns-of-requires
     loop-holds
-    mul-next-key
-    array-copy-out-next-key
     next-key-requires
     add-i
+    bytes-of-requires
     mul-w
     array-set-from-w-2
     x-times-requires
