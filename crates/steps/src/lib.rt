@@ -50,7 +50,7 @@ pub fn expand(key: [u8; 16], sum: u32) -> Expanded
 {
     let rows = aes::expand(key);
     let a = work::mix(sum, 4);
-    let b = work::mix_all(a, &key);
+    let b = work::mix_block(a, key);
     let c = work::mix_rows(b, &rows);
     together(rows, 1, c)
 }
@@ -95,8 +95,7 @@ fn mix_shown(s: u32, present: bool, v: u16) -> u32
     ensures { λ r. ⌜ r ≡ mixedAll s (shown present v) ⌝ }
 {
     if present {
-        let h = work::mix(s, (v / 256) as u8);
-        work::mix(h, (v % 256) as u8)
+        work::mix_two(s, v)
     } else {
         s
     }

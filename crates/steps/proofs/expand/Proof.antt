@@ -33,11 +33,8 @@ expand-requires c κs = search needs
 mix-requires : tie.Need-mix-requires
 mix-requires c κs = search needs
 
-slice-aggregate-mix-all : tie.Need-slice-aggregate-mix-all
-slice-aggregate-mix-all c = search needs
-
-mix-all-requires : tie.Need-mix-all-requires
-mix-all-requires c κs = search needs
+mix-block-requires : tie.Need-mix-block-requires
+mix-block-requires c κs = search needs
 
 mix-rows-requires : tie.Need-mix-rows-requires
 mix-rows-requires c κs = search needs
@@ -48,7 +45,7 @@ together-requires c κs = search needs
 returns : tie.Need-returns
 returns c =
     let b = c .before .before .before in
-    c .together .ensures ∙ same _ _ (b .before .before .before .expand .ensures) (b .before .before .mix .ensures) (b .mix-all .ensures) (c .before .mix-rows .ensures)
+    c .together .ensures ∙ same _ _ (b .before .before .expand .ensures) (b .before .mix .ensures) (b .mix-block .ensures) (c .before .mix-rows .ensures)
 
 pub expand-spec : {M : Type 1} → statement M
 expand-spec =
@@ -56,8 +53,7 @@ expand-spec =
     (tie.spec
     expand-requires
     mix-requires
-    slice-aggregate-mix-all
-    mix-all-requires
+    mix-block-requires
     mix-rows-requires
     together-requires
     returns)
