@@ -5,6 +5,7 @@
 // encipher and decipher, FIPS 197 A.1 for expand (the last round key), SP 800-38A F.2.1 and F.2.2 for the two of CBC (four
 // blocks). sha256-N is of N bytes, which are zeros the first time; each digest then goes over the first 32.
 ghost use Prim.Native.Nat.{_≤_};
+ghost use lib.ListN.{length};
 
 // The block that 32 hexadecimal digits say.
 fn block(digits: &[u8]) -> [u8; 16] {
@@ -58,15 +59,16 @@ fn expand(times: usize) -> [u8; 16] {
     k
 }
 
-// SHA-256 of n bytes, at least once. Two calls, and a length that only the run knows, so that the operation stays a function, as in firmware.
-fn hash(n: usize, times: usize) -> [u8; 32]
-    requires { ⌜ n ≤ 1024 ⌝ }
+// SHA-256 of the first n bytes, at least once; each digest goes over the first 32. Two calls, and a length that only the run knows, so
+// that the operation stays a function, as in firmware.
+fn hash(text: &mut [u8], n: usize, times: usize) -> [u8; 32]
+    requires { ⌜ n ≤ length (now text) ⌝ }
+    requires { ⌜ 32 ≤ length (now text) ⌝ }
 {
-    let mut text = [0u8; 1024];
     let mut d = sha256::digest(&text[..n]);
     let mut i = 1;
     while i < times {
-        octets::copy_at(&mut text, 0, &d);
+        octets::copy_at(text, 0, &d);
         let next = sha256::digest(&text[..n]);
         d = next;
         i += 1;
@@ -75,11 +77,10 @@ fn hash(n: usize, times: usize) -> [u8; 32]
 }
 
 fn show_hash(n: usize, times: usize) {
+    let mut text = [0u8; 1024];
     if n <= 1024 {
-        let d = hash(n, times);
+        let d = hash(&mut text, n, times);
         show(&d);
-    } else {
-        rsp::say(b"no such length\n");
     }
 }
 
@@ -112,14 +113,21 @@ fn chain_once(
     }
 }
 
+// CBC on the first n bytes.
+fn chain_part(text: &mut [u8], n: usize, is_inverse: bool, times: usize) -> u32
+    requires { ⌜ n ≤ length (now text) ⌝ }
+{
+    chain(&mut text[..n], is_inverse, times)
+}
+
 // `digits` are those of four blocks. The sum goes to standard error, so that it has to be made.
 fn show_chain(digits: &[u8], is_inverse: bool, times: usize) {
     let mut text = [0u8; 64];
     let n = rsp::hex(digits, 0, &mut text);
     if n <= 64 {
-        let sum = chain(&mut text[..n], is_inverse, times);
+        let sum = chain_part(&mut text, n, is_inverse, times);
         io::print_decimal(2, sum as u64);
-        show(&text[..n]);
+        show(&text);
     }
 }
 

@@ -94,11 +94,7 @@ pub struct Compared {
 fn mix_shown(s: u32, present: bool, v: u16) -> u32
     ensures { λ r. ⌜ r ≡ mixedAll s (shown present v) ⌝ }
 {
-    if present {
-        work::mix_two(s, v)
-    } else {
-        s
-    }
+    if present { work::mix_two(s, v) } else { s }
 }
 
 fn matches(present: bool, v: u16, held: bool, w: u16) -> bool

@@ -27,11 +27,14 @@ block-requires-2 c κs = search needs
 expand-requires : tie.Need-expand-requires Inv-loop μ-loop
 expand-requires c κs = search needs
 
+chain-once-requires : tie.Need-chain-once-requires Inv-loop μ-loop
+chain-once-requires c κs = search needs
+
 loop-holds : tie.Need-loop-holds Inv-loop μ-loop
 loop-holds c = search needs
 
-chain-once-requires : tie.Need-chain-once-requires Inv-loop μ-loop
-chain-once-requires c κs = search needs
+chain-once-requires-2 : tie.Need-chain-once-requires-2 Inv-loop μ-loop
+chain-once-requires-2 c κs = search needs
 
 add-i : tie.Need-add-i Inv-loop μ-loop
 add-i c = search needs
@@ -59,8 +62,9 @@ chain-spec =
     slice-aggregate-block-2
     block-requires-2
     expand-requires
-    loop-holds
     chain-once-requires
+    loop-holds
+    chain-once-requires-2
     add-i
     loop-less
     loop-again
