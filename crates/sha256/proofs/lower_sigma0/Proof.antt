@@ -1,12 +1,21 @@
--- `sha256::lower_sigma0` meets its contract: the code is the definition, opened. Assumes nothing.
-use mathlib.Core.Path.{refl}
-use Rattle.sha256.specs.Functions.{sigma0}
+use borrow.Author.Needs.{needs}
 use Rattle.sha256.proofs.lower_sigma0.Statement.{statement}
 use Rattle.sha256.proofs.lower_sigma0.Tie as tie
+use Rattle.sha256.proofs.lower_sigma0.Reads as reads
+use Rattle.sha256.proofs.lower_sigma0.Lts as lts
+use Rattle.sha256.proofs.rotr.Reads as rotr-reads
 
+-- src/lib.rt:111:13
+rotr-requires : tie.Need-rotr-requires
+rotr-requires c κs = search needs
+
+-- src/lib.rt:111:5
+rotr-requires-2 : tie.Need-rotr-requires-2
+rotr-requires-2 c κs = search needs
+
+-- src/lib.rt:108:1
 returns : tie.Need-returns
-unfolding sigma0
-returns c = refl
+returns c = ?
 
 pub lower-sigma0-spec : {M : Type 1} → statement M
-lower-sigma0-spec = tie.close (tie.spec returns)
+lower-sigma0-spec = tie.close (tie.spec rotr-requires rotr-requires-2 returns)
