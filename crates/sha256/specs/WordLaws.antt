@@ -7,7 +7,7 @@ use native.Mathlib.Omega.{arith}
 use lib.Arith.{bin-ind}
 use lib.Pow.{pow-pos, pow-add, shr-lt, shl-shr, shr-le, shr-shr, mod-pow-add}
 use lib.Bits.{bitAnd, bitOr, bitXor, xor-lt, xor-add-and, xor-comm, xor-block, xor-shr, xor-mod, and-comm, and-self, and-mask, and-shr, and-mod, or-lt, or-shifted-r}
-use Rattle.octets.specs.Xor.{xor-assoc, xor-cancel, left-comm}
+use Rattle.octets.specs.Xor.{xor-assoc, xor-cancel}
 use Rattle.sha256.specs.Words.{complement, rotr}
 use Rattle.sha256.specs.Functions.{ch, maj}
 
