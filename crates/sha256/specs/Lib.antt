@@ -1,5 +1,6 @@
 pub mod Words
 pub mod Functions
+pub mod WordLaws
 pub mod Constants
 pub mod Padding
 pub mod PaddingLaws

@@ -1,7 +1,7 @@
 ghost use mathlib.Core.Path.{_≡_};
 ghost use Prim.Native.Nat.{_+_, _-_, _*_, _/_, _%_, _^_, _<_, _≤_};
 ghost use lib.ListN.{getD, take};
-ghost use Rattle.sha256.specs.Words.{plus, word, wordBytes};
+ghost use Rattle.sha256.specs.Words.{plus, rotr, word, wordBytes};
 ghost use Rattle.sha256.specs.Functions.{ch, maj, upperSigma0, upperSigma1, sigma0, sigma1};
 ghost use Rattle.sha256.specs.Padding.{pad};
 ghost use Rattle.sha256.specs.Parsing.{blocks, blockAt, blockWords};
@@ -83,41 +83,50 @@ fn add(a: u32, b: u32) -> u32
     std::num::wrapping_add_u32(a, b)
 }
 
-// The six functions of section 4.1.2.
+// The rotation ROTR^n of section 3.2.
+fn rotr(n: u32, x: u32) -> u32
+    requires { ⌜ 0 < n ⌝ }
+    requires { ⌜ n < 32 ⌝ }
+    ensures { λ r. ⌜ r ≡ rotr n x ⌝ }
+{
+    (x >> n) | (x << (32 - n))
+}
+
+// The six functions of section 4.1.2, in forms that take fewer instructions: a rotation of a sum is the sum of the rotations.
 fn upper_sigma0(x: u32) -> u32
     ensures { λ r. ⌜ r ≡ upperSigma0 x ⌝ }
 {
-    ((x >> 2) | (x << 30)) ^ ((x >> 13) | (x << 19)) ^ ((x >> 22) | (x << 10))
+    rotr(2, rotr(11, rotr(9, x) ^ x) ^ x)
 }
 
 fn upper_sigma1(x: u32) -> u32
     ensures { λ r. ⌜ r ≡ upperSigma1 x ⌝ }
 {
-    ((x >> 6) | (x << 26)) ^ ((x >> 11) | (x << 21)) ^ ((x >> 25) | (x << 7))
+    rotr(6, rotr(5, rotr(14, x) ^ x) ^ x)
 }
 
 fn lower_sigma0(x: u32) -> u32
     ensures { λ r. ⌜ r ≡ sigma0 x ⌝ }
 {
-    ((x >> 7) | (x << 25)) ^ ((x >> 18) | (x << 14)) ^ (x >> 3)
+    rotr(7, rotr(11, x) ^ x) ^ (x >> 3)
 }
 
 fn lower_sigma1(x: u32) -> u32
     ensures { λ r. ⌜ r ≡ sigma1 x ⌝ }
 {
-    ((x >> 17) | (x << 15)) ^ ((x >> 19) | (x << 13)) ^ (x >> 10)
+    rotr(17, rotr(2, x) ^ x) ^ (x >> 10)
 }
 
 fn choose(x: u32, y: u32, z: u32) -> u32
     ensures { λ r. ⌜ r ≡ ch x y z ⌝ }
 {
-    (x & y) ^ (!x & z)
+    (x & (y ^ z)) ^ z
 }
 
 fn majority(x: u32, y: u32, z: u32) -> u32
     ensures { λ r. ⌜ r ≡ maj x y z ⌝ }
 {
-    (x & y) ^ (x & z) ^ (y & z)
+    ((x ^ y) & (y ^ z)) ^ y
 }
 
 // One turn of the 64, on a to h.
@@ -178,7 +187,14 @@ fn full_schedule(b: &[u8; 64]) -> [u32; 64]
     let mut n: usize = 0;
     while n < 48 {
         w[n + 16] = next_word(&w, n);
-        n += 1;
+        w[n + 17] = next_word(&w, n + 1);
+        w[n + 18] = next_word(&w, n + 2);
+        w[n + 19] = next_word(&w, n + 3);
+        w[n + 20] = next_word(&w, n + 4);
+        w[n + 21] = next_word(&w, n + 5);
+        w[n + 22] = next_word(&w, n + 6);
+        w[n + 23] = next_word(&w, n + 7);
+        n += 8;
     }
     w
 }
@@ -191,9 +207,16 @@ fn all_turns(w: [u32; 64], h: [u32; 8]) -> [u32; 8]
     let mut v = h;
     let mut i: usize = 0;
     while i < 64 {
-        let n = one_turn(v, k[i], w[i]);
+        let a = one_turn(v, k[i], w[i]);
+        let b = one_turn(a, k[i + 1], w[i + 1]);
+        let c = one_turn(b, k[i + 2], w[i + 2]);
+        let d = one_turn(c, k[i + 3], w[i + 3]);
+        let e = one_turn(d, k[i + 4], w[i + 4]);
+        let f = one_turn(e, k[i + 5], w[i + 5]);
+        let g = one_turn(f, k[i + 6], w[i + 6]);
+        let n = one_turn(g, k[i + 7], w[i + 7]);
         v = n;
-        i += 1;
+        i += 8;
     }
     v
 }

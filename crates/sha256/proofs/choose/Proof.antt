@@ -1,12 +1,11 @@
--- `sha256::choose` meets its contract: the code is the definition, opened. Assumes nothing.
-use mathlib.Core.Path.{refl}
-use Rattle.sha256.specs.Functions.{ch}
+-- `sha256::choose` meets its contract, by the law of its short form. Assumes nothing.
+use Rattle.sha256.specs.WordLaws.{ch-short}
+use borrow.Author.Needs.{needs}
 use Rattle.sha256.proofs.choose.Statement.{statement}
 use Rattle.sha256.proofs.choose.Tie as tie
 
 returns : tie.Need-returns
-unfolding ch
-returns c = refl
+returns c = ch-short (c .args .x) (c .args .y) (c .args .z) (search needs) (search needs)
 
 pub choose-spec : {M : Type 1} → statement M
 choose-spec = tie.close (tie.spec returns)

@@ -1,12 +1,10 @@
--- `sha256::majority` meets its contract: the code is the definition, opened. Assumes nothing.
-use mathlib.Core.Path.{refl}
-use Rattle.sha256.specs.Functions.{maj}
+-- `sha256::majority` meets its contract, by the law of its short form. Assumes nothing.
+use Rattle.sha256.specs.WordLaws.{maj-short}
 use Rattle.sha256.proofs.majority.Statement.{statement}
 use Rattle.sha256.proofs.majority.Tie as tie
 
 returns : tie.Need-returns
-unfolding maj
-returns c = refl
+returns c = maj-short (c .args .x) (c .args .y) (c .args .z)
 
 pub majority-spec : {M : Type 1} → statement M
 majority-spec = tie.close (tie.spec returns)
