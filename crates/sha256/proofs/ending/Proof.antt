@@ -1,34 +1,46 @@
+-- `sha256::ending` meets its contract: the block that the message ends in is the last, where eight bytes are free behind 0x80, and else
+-- the last but one. Assumes nothing.
+use mathlib.Core.Path.{_∙_}
+use mathlib.Core.List.{List}
+use Prim.Native.Nat.{ℕ, _+_, _-_, _/_, _%_}
+use native.Mathlib.Omega.{arith}
+use lib.ListN.{length, getD, set, replicate}
+use Rattle.octets.specs.Filled.{Filled}
+use Rattle.sha256.specs.PaddingLaws.{blocks-count}
+use Rattle.sha256.proofs.Blocks.{Begun, begun, marked, block-open, block-last}
 use borrow.Author.Needs.{needs}
 use Rattle.sha256.proofs.ending.Statement.{statement}
 use Rattle.sha256.proofs.ending.Tie as tie
-use Rattle.sha256.proofs.ending.Reads as reads
-use Rattle.sha256.proofs.ending.Lts as lts
-use Rattle.sha256.proofs.front.Reads as front-reads
-use Rattle.sha256.proofs.put_length.Reads as put-length-reads
 
--- src/lib.rt:282:26
+-- the block with 0x80, of what `front` gave
+ended : (m b : List ℕ) → Filled (λ j. getD m (length m - length m % 64 + j) 0) (replicate 64 0) b (length m % 64) →
+    Begun m (length m / 64) (set b (length m % 64) 0x80) (length m % 64 + 1)
+ended m b q =
+    let i : ℕ = length m / 64 in
+    marked m i (length m % 64) b (omega arith) (omega arith) (begun m i (length m - length m % 64) (length m % 64) b (omega arith) (omega arith) q)
+
 sub-front : tie.Need-sub-front
 sub-front c = search needs
 
--- src/lib.rt:282:17
 front-requires : tie.Need-front-requires
 front-requires c κs = search needs
 
--- src/lib.rt:283:5
 array-write-b : tie.Need-array-write-b
 array-write-b c = search needs
 
--- src/lib.rt:285:9
 put-length-requires : tie.Need-put-length-requires
 put-length-requires c κs = search needs
 
--- src/lib.rt:285:9
 returns : tie.Need-returns
-returns c = ?
+returns c =
+    let m = c .before .before .before .before .args .m .now in
+    c .put-length .ensures
+    ∙ block-last m (length m / 64) (length m % 64 + 1) _ (omega arith) (omega (arith, blocks-count m)) (ended m _ (c .before .before .front .ensures))
 
--- src/lib.rt:277:1
 returns-2 : tie.Need-returns-2
-returns-2 c = ?
+returns-2 c =
+    let m = c .before .before .before .args .m .now in
+    block-open m (length m / 64) (length m % 64 + 1) _ (omega arith) (omega (arith, blocks-count m)) (ended m _ (c .before .front .ensures))
 
 pub ending-spec : {M : Type 1} → statement M
 ending-spec =

@@ -1,48 +1,52 @@
+-- `sha256::padded_block` meets its contract: block i is of the message, or the one that it ends in, or the last with the length alone, or past
+-- the last. Assumes nothing.
+use mathlib.Core.Path.{_≡_, refl, sym, ap, _∙_}
+use Prim.Native.Nat.{ℕ, _+_, _*_, _/_}
+use native.Mathlib.Omega.{arith}
+use lib.ListN.{length, replicate}
+use Rattle.octets.specs.Filled.{filled-none}
+use Rattle.sha256.specs.Parsing.{blockAt}
+use Rattle.sha256.specs.PaddingLaws.{blocks-count}
+use Rattle.sha256.proofs.Blocks.{begun, block-in, block-last, block-past}
 use borrow.Author.Needs.{needs}
 use Rattle.sha256.proofs.padded_block.Statement.{statement}
 use Rattle.sha256.proofs.padded_block.Tie as tie
-use Rattle.sha256.proofs.padded_block.Reads as reads
-use Rattle.sha256.proofs.padded_block.Lts as lts
-use Rattle.sha256.proofs.block_count.Reads as block-count-reads
-use Rattle.sha256.proofs.ending.Reads as ending-reads
-use Rattle.sha256.proofs.front.Reads as front-reads
-use Rattle.sha256.proofs.put_length.Reads as put-length-reads
 
--- src/lib.rt:296:25
 mul-front : tie.Need-mul-front
 mul-front c = search needs
 
--- src/lib.rt:296:9
 front-requires : tie.Need-front-requires
 front-requires c κs = search needs
 
--- src/lib.rt:296:9
 returns : tie.Need-returns
-returns c = ?
+returns c =
+    let a = c .before .before .before .args in
+    block-in (a .m .now) (a .i) _ (begun (a .m .now) (a .i) (64 * a .i) 64 _ refl (omega arith) (c .front .ensures))
 
--- src/lib.rt:299:9
 ending-requires : tie.Need-ending-requires
 ending-requires c κs = search needs
 
--- src/lib.rt:299:9
 returns-2 : tie.Need-returns-2
-returns-2 c = ?
+returns-2 c =
+    let a = c .before .before .before .before .args in
+    c .ending .ensures ∙ ap (blockAt (a .m .now)) (sym (c .before .if2 .taken))
 
--- src/lib.rt:302:12
 block-count-requires : tie.Need-block-count-requires
 block-count-requires c κs = search needs
 
--- src/lib.rt:303:9
 put-length-requires : tie.Need-put-length-requires
 put-length-requires c κs = search needs
 
--- src/lib.rt:303:9
 returns-3 : tie.Need-returns-3
-returns-3 c = ?
+returns-3 c =
+    let a = c .before .before .before .before .before .before .args in
+    c .put-length .ensures
+    ∙ block-last (a .m .now) (a .i) 0 (replicate 64 0) (omega arith) (omega (arith, blocks-count (a .m .now))) (filled-none _ _)
 
--- src/lib.rt:291:1
 returns-4 : tie.Need-returns-4
-returns-4 c = ?
+returns-4 c =
+    let a = c .before .before .before .before .before .args in
+    block-past (a .m .now) (a .i) (omega arith)
 
 pub padded-block-spec : {M : Type 1} → statement M
 padded-block-spec =

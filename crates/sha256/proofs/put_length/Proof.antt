@@ -1,5 +1,5 @@
 -- `sha256::put_length` meets its contract, by the eight stores. Assumes nothing.
-use Rattle.sha256.specs.PaddingLaws.{length-put}
+use Rattle.sha256.proofs.Blocks.{length-put}
 use borrow.Author.Needs.{needs}
 use Rattle.sha256.proofs.put_length.Statement.{statement}
 use Rattle.sha256.proofs.put_length.Tie as tie
