@@ -7,7 +7,7 @@ use Prim.Native.Nat.{ℕ, zero, suc, _+_, _-_, _*_, _/_, _%_, _^_, _<_, _≤_}
 use native.Mathlib.Nat.{eq-zero-or-pos}
 use native.Mathlib.Omega.{arith}
 use lib.ListN.{length, getD, take, drop, set, replicate, length-append, getD-replicate, List·getD-append}
-use lib.Seq.{sets, sets-eq, length-take-le, getD-take, getD-append-add}
+use lib.Seq.{sets, sets-eq, length-take-le, getD-take}
 use Rattle.octets.specs.Lists.{table, table-ext, tabled, over, length-over}
 use Rattle.octets.specs.Filled.{Filled, filled-more, filled-all}
 use Rattle.sha256.specs.Padding.{be64, pad}
@@ -100,12 +100,12 @@ module _ (m : List ℕ) where
   block-open i k b h e q = whole i b (q .long) (zeroed i k 64 b h (omega (arith, length-blocks m)) (omega arith) q)
 
   -- the last block, with the length
-  pub block-last : (i k : ℕ) (b : List ℕ) → length m < 64 * i + k → i + 1 ≡ blocks m → Begun i b k → over b 56 (be64 (8 * length m)) ≡ blockAt m i
-  block-last i k b h e q =
+  pub block-last : (i k : ℕ) {b r : List ℕ} → length m < 64 * i + k → i + 1 ≡ blocks m → Begun i b k → r ≡ over b 56 (be64 (8 * length m)) → r ≡ blockAt m i
+  block-last i k {b} h e q f =
       let s : List ℕ = be64 (8 * length m) in
       let z : (j : ℕ) → j < 56 → getD b j 0 ≡ byte i j = zeroed i k 56 b h (omega (arith, length-blocks m)) (omega arith) q in
       let g : length b ≡ 64 = q .long in
-      whole i (over b 56 s) (length-over b 56 s (omega arith) ∙ g)
+      f ∙ whole i (over b 56 s) (length-over b 56 s (omega arith) ∙ g)
       (λ j l.
       ⊎-elim
       (λ (p : 56 - j ≡ 0).

@@ -1,6 +1,5 @@
 -- `sha256::ending` meets its contract: the block that the message ends in is the last, where eight bytes are free behind 0x80, and else
 -- the last but one. Assumes nothing.
-use mathlib.Core.Path.{_∙_}
 use mathlib.Core.List.{List}
 use Prim.Native.Nat.{ℕ, _+_, _-_, _/_, _%_}
 use native.Mathlib.Omega.{arith}
@@ -34,8 +33,7 @@ put-length-requires c κs = search needs
 returns : tie.Need-returns
 returns c =
     let m = c .before .before .before .before .args .m .now in
-    c .put-length .ensures
-    ∙ block-last m (length m / 64) (length m % 64 + 1) _ (omega arith) (omega (arith, blocks-count m)) (ended m _ (c .before .before .front .ensures))
+    block-last m (length m / 64) (length m % 64 + 1) (omega arith) (omega (arith, blocks-count m)) (ended m _ (c .before .before .front .ensures)) (c .put-length .ensures)
 
 returns-2 : tie.Need-returns-2
 returns-2 c =

@@ -1,9 +1,8 @@
 -- `sha256::front` meets its contract. The loop's invariant: the first j bytes are the message's, from `at` on. Assumes nothing.
 use mathlib.Core.Path.{_≡_, refl}
-use mathlib.Core.List.{List}
-use Prim.Native.Nat.{ℕ, _+_, _-_, _≤_}
+use Prim.Native.Nat.{_+_, _-_, _≤_}
 use native.Mathlib.Omega.{arith}
-use lib.ListN.{length, getD, replicate}
+use lib.ListN.{getD, replicate}
 use Rattle.octets.specs.Filled.{Filled, filled-none, filled-more}
 use borrow.Author.Needs.{needs}
 use Rattle.sha256.proofs.front.Statement.{statement}

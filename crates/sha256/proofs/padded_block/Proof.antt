@@ -1,9 +1,8 @@
 -- `sha256::padded_block` meets its contract: block i is of the message, or the one that it ends in, or the last with the length alone, or past
 -- the last. Assumes nothing.
-use mathlib.Core.Path.{_≡_, refl, sym, ap, _∙_}
-use Prim.Native.Nat.{ℕ, _+_, _*_, _/_}
+use mathlib.Core.Path.{refl, sym, ap, _∙_}
+use Prim.Native.Nat.{_*_}
 use native.Mathlib.Omega.{arith}
-use lib.ListN.{length, replicate}
 use Rattle.octets.specs.Filled.{filled-none}
 use Rattle.sha256.specs.Parsing.{blockAt}
 use Rattle.sha256.specs.PaddingLaws.{blocks-count}
@@ -40,8 +39,7 @@ put-length-requires c κs = search needs
 returns-3 : tie.Need-returns-3
 returns-3 c =
     let a = c .before .before .before .before .before .before .args in
-    c .put-length .ensures
-    ∙ block-last (a .m .now) (a .i) 0 (replicate 64 0) (omega arith) (omega (arith, blocks-count (a .m .now))) (filled-none _ _)
+    block-last (a .m .now) (a .i) 0 (omega arith) (omega (arith, blocks-count (a .m .now))) (filled-none _ _) (c .put-length .ensures)
 
 returns-4 : tie.Need-returns-4
 returns-4 c =
