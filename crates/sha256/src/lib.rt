@@ -1,9 +1,9 @@
 ghost use mathlib.Core.Path.{_≡_};
-ghost use Prim.Native.Nat.{_+_, _-_, _*_, _/_, _%_, _^_, _<_, _≤_};
+ghost use Prim.Native.Nat.{_+_, _*_, _/_, _<_, _≤_};
 ghost use lib.ListN.{length, getD, take, replicate};
 ghost use Rattle.octets.specs.Lists.{over};
 ghost use Rattle.octets.specs.Filled.{Filled};
-ghost use Rattle.sha256.specs.Words.{plus, word, wordBytes};
+ghost use Rattle.sha256.specs.Words.{plus, word};
 ghost use Rattle.sha256.specs.Functions.{ch, maj, upperSigma0, upperSigma1, sigma0, sigma1};
 ghost use Rattle.sha256.specs.Padding.{be64};
 ghost use Rattle.sha256.specs.Parsing.{blocks, blockAt, blockWords};
@@ -305,22 +305,19 @@ pub fn padded_block(m: &[u8], i: usize) -> [u8; 64]
     zeros
 }
 
-// Byte k of a word, the first the most significant.
-fn word_byte(x: u32, k: usize) -> u8
-    requires { ⌜ k < 4 ⌝ }
-    ensures { λ r. ⌜ r ≡ getD (wordBytes x) k 0 ⌝ }
-{
-    ((x >> (24 - 8 * k)) % 256) as u8
-}
-
-// The digest: the words of a hash value as bytes.
+// The digest: the words of a hash value as bytes, of each the most significant first.
 pub fn to_bytes(h: [u32; 8]) -> [u8; 32]
     ensures { λ r. ⌜ r ≡ digestBytes h ⌝ }
 {
     let mut d = [0u8; 32];
     let mut i: usize = 0;
-    while i < 32 {
-        d[i] = word_byte(h[i / 4], i % 4);
+    while i < 8 {
+        let x = h[i];
+        let j = 4 * i;
+        d[j] = ((x >> 24) % 256) as u8;
+        d[j + 1] = ((x >> 16) % 256) as u8;
+        d[j + 2] = ((x >> 8) % 256) as u8;
+        d[j + 3] = (x % 256) as u8;
         i += 1;
     }
     d
