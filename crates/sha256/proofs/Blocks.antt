@@ -65,11 +65,11 @@ module _ (m : List ℕ) where
   Begun i b k = Filled (byte i) (replicate 64 0) b k
 
   -- k bytes of the message
-  pub begun : (i at k : ℕ) (b : List ℕ) → at ≡ 64 * i → at + k ≤ length m → Filled (λ j. getD m (at + j) 0) (replicate 64 0) b k → Begun i b k
-  begun i at k b e h q =
+  pub begun : (i : ℕ) {f : ℕ → ℕ} {b : List ℕ} {k : ℕ} → Filled f (replicate 64 0) b k → 64 * i + k ≤ length m → ((j : ℕ) → f j ≡ getD m (64 * i + j) 0) → Begun i b k
+  begun i q h e =
       record {
         long = q .long;
-        done = λ j l. q .done j l ∙ ap (λ (n : ℕ). getD m (n + j) 0) e ∙ sym (pad-in m (64 * i + j) (omega arith));
+        done = λ j l. q .done j l ∙ e j ∙ sym (pad-in m (64 * i + j) (omega arith));
         rest = q .rest;
       }
 

@@ -1,7 +1,6 @@
 -- `sha256::padded_block` meets its contract: block i is of the message, or the one that it ends in, or the last with the length alone, or past
 -- the last. Assumes nothing.
 use mathlib.Core.Path.{refl, sym, ap, _∙_}
-use Prim.Native.Nat.{_*_}
 use native.Mathlib.Omega.{arith}
 use Rattle.octets.specs.Filled.{filled-none}
 use Rattle.sha256.specs.Parsing.{blockAt}
@@ -20,7 +19,7 @@ front-requires c κs = search needs
 returns : tie.Need-returns
 returns c =
     let a = c .before .before .before .args in
-    block-in (a .m .now) (a .i) _ (begun (a .m .now) (a .i) (64 * a .i) 64 _ refl (omega arith) (c .front .ensures))
+    block-in (a .m .now) (a .i) _ (begun (a .m .now) (a .i) (c .front .ensures) (omega arith) (λ j. refl))
 
 ending-requires : tie.Need-ending-requires
 ending-requires c κs = search needs
