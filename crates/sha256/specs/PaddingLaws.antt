@@ -2,11 +2,10 @@
 -- which byte stands at an index. Assumes nothing.
 use mathlib.Core.Path.{_≡_, ap, _∙_}
 use mathlib.Core.List.{List, _∷_, _++_}
-use Prim.Native.Nat.{ℕ, suc, _+_, _-_, _*_, _/_, _%_, _^_, _<_, _≤_}
+use Prim.Native.Nat.{ℕ, suc, _+_, _-_, _*_, _/_, _%_, _<_, _≤_}
 use native.Mathlib.Omega.{arith}
 use lib.ListN.{length, getD, replicate, length-append, length-replicate, getD-replicate, List·getD-append, List·getD-eq-default}
 use lib.Seq.{getD-append-add}
-use Rattle.octets.specs.Lists.{getD-table}
 use Rattle.sha256.specs.Padding.{zeroBits, be64, pad}
 use Rattle.sha256.specs.Parsing.{blocks}
 
@@ -27,7 +26,7 @@ zeroBytes n = (zeroBits (8 * n) - 7) / 8
 pub zeroBits-whole : (n : ℕ) → zeroBits (8 * n) ≡ 7 + 8 * zeroBytes n
 zeroBits-whole n = omega arith
 
-past : (s t : List ℕ) (i j : ℕ) → i ≡ length s + j → getD (s ++ t) i 0 ≡ getD t j 0
+pub past : (s t : List ℕ) (i j : ℕ) → i ≡ length s + j → getD (s ++ t) i 0 ≡ getD t j 0
 past s t i j e = ap (λ (n : ℕ). getD (s ++ t) n 0) e ∙ getD-append-add s t j 0
 
 module _ (m : List ℕ) where
@@ -73,15 +72,10 @@ module _ (m : List ℕ) where
       ∙ getD-replicate (zeroBytes (length m)) (i - length m - 1) 0 0 (omega arith)
 
   -- the length in bits
-  pub pad-length : (i j : ℕ) → i ≡ length m + 1 + zeroBytes (length m) + j → j < 8 → getD (pad m) i 0 ≡ 8 * length m / 2 ^ (56 - 8 * j) % 256
+  pub pad-length : (i j : ℕ) → i ≡ length m + 1 + zeroBytes (length m) + j → j < 8 → getD (pad m) i 0 ≡ getD (be64 (8 * length m)) j 0
   pad-length i j e h =
       beyond i (zeroBytes (length m) + j) (omega arith)
       ∙ past zeros (be64 (8 * length m)) (zeroBytes (length m) + j) j (omega (arith, zeros-long))
-      ∙ getD-table (λ k. 8 * length m / 2 ^ (56 - 8 * k) % 256) 8 0 j 0 h
-      ∙ ap (λ (k : ℕ). 8 * length m / 2 ^ (56 - 8 * k) % 256) z
-    where
-      z : 0 + j ≡ j
-      z = omega arith
 
   -- nothing past the last block
   pub pad-past : (i : ℕ) → length (pad m) ≤ i → getD (pad m) i 0 ≡ 0

@@ -1,9 +1,11 @@
 ghost use mathlib.Core.Path.{_≡_};
-ghost use Prim.Native.Nat.{_+_, _-_, _*_, _/_, _%_, _^_, _<_, _≤_};
-ghost use lib.ListN.{getD, take};
-ghost use Rattle.sha256.specs.Words.{plus, rotr, word, wordBytes};
+ghost use Prim.Native.Nat.{_+_, _*_, _/_, _<_, _≤_};
+ghost use lib.ListN.{length, getD, take, replicate};
+ghost use Rattle.octets.specs.Lists.{over};
+ghost use Rattle.octets.specs.Filled.{Filled};
+ghost use Rattle.sha256.specs.Words.{plus, rotr, word};
 ghost use Rattle.sha256.specs.Functions.{ch, maj, upperSigma0, upperSigma1, sigma0, sigma1};
-ghost use Rattle.sha256.specs.Padding.{pad};
+ghost use Rattle.sha256.specs.Padding.{be64};
 ghost use Rattle.sha256.specs.Parsing.{blocks, blockAt, blockWords};
 ghost use Rattle.sha256.specs.Initial.{initialHash};
 ghost use Rattle.sha256.specs.Hash.{nextWord, schedule, turn, turns, compressed, stateAfter, digestBytes, sha256};
@@ -262,81 +264,83 @@ pub fn block_count(m: &[u8]) -> usize
     n / 64 + 1 + (n % 64 + 8) / 64
 }
 
-// Byte k of the eight that hold the length in bits of n bytes, modulo 2^64.
-fn length_byte(n: usize, k: usize) -> u8
-    requires { ⌜ k < 8 ⌝ }
-    ensures { λ r. ⌜ r ≡ 8 * n / 2 ^ (56 - 8 * k) % 256 ⌝ }
+// The length in bits of n bytes, modulo 2^64, written over the last eight bytes of a block.
+fn put_length(b: [u8; 64], n: usize) -> [u8; 64]
+    ensures { λ r. ⌜ r ≡ over b 56 (be64 (8 * n)) ⌝ }
 {
-    ((n % 0x2000_0000_0000_0000 * 8 >> (56 - 8 * k)) % 256) as u8
+    let bits = n % 0x2000_0000_0000_0000 * 8;
+    let mut t = b;
+    t[56] = ((bits >> 56) % 256) as u8;
+    t[57] = ((bits >> 48) % 256) as u8;
+    t[58] = ((bits >> 40) % 256) as u8;
+    t[59] = ((bits >> 32) % 256) as u8;
+    t[60] = ((bits >> 24) % 256) as u8;
+    t[61] = ((bits >> 16) % 256) as u8;
+    t[62] = ((bits >> 8) % 256) as u8;
+    t[63] = (bits % 256) as u8;
+    t
 }
 
-// Byte j of the last block of a padded message of n bytes, where it is past the byte 0x80.
-fn last_byte(n: usize, j: usize) -> u8
-    requires { ⌜ j < 64 ⌝ }
-    ensures { λ r. ⌜ (j < 56 → r ≡ 0) ⌝ }
-    ensures { λ r. ⌜ (56 ≤ j → r ≡ 8 * n / 2 ^ (56 - 8 * (j - 56)) % 256) ⌝ }
+// k bytes of the message from a place on, and zeros behind them.
+fn front(m: &[u8], at: usize, k: usize) -> [u8; 64]
+    requires { ⌜ at + k ≤ length (now m) ⌝ }
+    requires { ⌜ k ≤ 64 ⌝ }
+    ensures { λ r. ⌜ Filled (λ j. getD (now (m .entry)) (at + j) 0) (replicate 64 0) r k ⌝ }
 {
-    if j < 56 {
-        return 0;
+    let mut b = [0u8; 64];
+    let mut j: usize = 0;
+    while j < k {
+        b[j] = m[at + j];
+        j += 1;
     }
-    length_byte(n, j - 56)
+    b
 }
 
-// Byte j of block i of the padded message. The block past the message's end goes first: there 64 * i may not fit.
-fn padded_byte(m: &[u8], i: usize, j: usize) -> u8
-    requires { ⌜ i < blocks (now m) ⌝ }
-    requires { ⌜ j < 64 ⌝ }
-    ensures { λ r. ⌜ r ≡ getD (pad (now (m .entry))) (64 * i + j) 0 ⌝ }
+// The block in which the message ends: what is left of it, the byte 0x80, and the length where eight bytes are free behind that.
+fn ending(m: &[u8]) -> [u8; 64]
+    ensures { λ r. ⌜ r ≡ blockAt (now (m .entry)) (length (now (m .entry)) / 64) ⌝ }
 {
     let n = m.len();
-    if n / 64 < i {
-        return last_byte(n, j);
+    let rest = n % 64;
+    let mut b = front(m, n - rest, rest);
+    b[rest] = 0x80;
+    if rest < 56 {
+        return put_length(b, n);
     }
-    let at = 64 * i + j;
-    if at < n {
-        return m[at];
-    }
-    if at == n {
-        return 0x80;
-    }
-    if i < n / 64 + (n % 64 + 8) / 64 {
-        return 0;
-    }
-    last_byte(n, j)
+    b
 }
 
 // Block i of the padded message; zeros past the last.
 pub fn padded_block(m: &[u8], i: usize) -> [u8; 64]
     ensures { λ r. ⌜ r ≡ blockAt (now (m .entry)) i ⌝ }
 {
-    let mut b = [0u8; 64];
-    if block_count(m) <= i {
-        return b;
+    let n = m.len();
+    if i < n / 64 {
+        return front(m, 64 * i, 64);
     }
-    let mut j: usize = 0;
-    while j < 64 {
-        b[j] = padded_byte(m, i, j);
-        j += 1;
+    if i == n / 64 {
+        return ending(m);
     }
-    b
+    let zeros = [0u8; 64];
+    if i < block_count(m) {
+        return put_length(zeros, n);
+    }
+    zeros
 }
 
-// Byte k of a word, the first the most significant.
-fn word_byte(x: u32, k: usize) -> u8
-    requires { ⌜ k < 4 ⌝ }
-    ensures { λ r. ⌜ r ≡ getD (wordBytes x) k 0 ⌝ }
-{
-    ((x >> (24 - 8 * k)) % 256) as u8
-}
-
-// The digest: the words of a hash value as bytes.
+// The digest: the words of a hash value as bytes, of each the most significant first.
 pub fn to_bytes(h: [u32; 8]) -> [u8; 32]
     ensures { λ r. ⌜ r ≡ digestBytes h ⌝ }
 {
     let mut d = [0u8; 32];
     let mut i: usize = 0;
-    while i < 32 {
-        d[i] = word_byte(h[i / 4], i % 4);
+    while i < 8 {
+        let x = h[i];
+        let j = 4 * i;
+        d[j] = ((x >> 24) % 256) as u8;
+        d[j + 1] = ((x >> 16) % 256) as u8;
+        d[j + 2] = ((x >> 8) % 256) as u8;
+        d[j + 3] = (x % 256) as u8;
         i += 1;
     }
     d

@@ -1,11 +1,11 @@
 -- `sha256::hash` meets its contract. The loop's invariant: h is the hash value after i blocks. Assumes nothing.
 use mathlib.Core.Path.{_≡_, sym, ap, ap₂, _∙_}
 use mathlib.Core.List.{List}
-use Prim.Native.Nat.{ℕ, _-_, _≤_}
+use Prim.Native.Nat.{ℕ, _+_, _-_, _≤_}
 use native.Mathlib.Omega.{arith}
 use native.Mathlib.Numerals.{add-one}
 use Rattle.sha256.specs.declared.Hashed.{Hashed}
-use Rattle.sha256.specs.Parsing.{blocks}
+use Rattle.sha256.specs.Parsing.{blocks, blockAt}
 use Rattle.sha256.specs.Hash.{compressed, stateAfter}
 use borrow.Author.Needs.{needs}
 use Rattle.sha256.proofs.hash.Statement.{statement}
@@ -13,6 +13,11 @@ use Rattle.sha256.proofs.hash.Tie as tie
 
 abbrev hashed : List ℕ → ℕ → Hashed
 hashed s n = record { state = s; blocks = n }
+
+-- one block more
+turned : (m : List ℕ) (i : ℕ) {h b r : List ℕ} → r ≡ compressed h b → h ≡ stateAfter m i → b ≡ blockAt m i → r ≡ stateAfter m (i + 1)
+unfolding stateAfter
+turned m i e p q = e ∙ ap₂ compressed p q ∙ ap (stateAfter m) (sym (add-one i))
 
 abbrev Inv-loop : tie.InvT-loop
 Inv-loop m n h₀ i₀ h i = (n ≡ blocks m) × (i ≤ n) × (h ≡ stateAfter m i)
@@ -43,14 +48,10 @@ loop-less : tie.Need-loop-less Inv-loop μ-loop
 loop-less c = search needs
 
 loop-again : tie.Need-loop-again Inv-loop μ-loop
-unfolding stateAfter
 loop-again c =
     let l = c .before .before .before .before .loop in
-    let m = c .before .before .before .before .before .before .before .before .args .m .now in (
-      l .inv .0,
-      omega arith,
-      c .compress .ensures ∙ ap₂ compressed (l .inv .2) (c .before .before .padded-block .ensures) ∙ ap (stateAfter m) (sym (add-one (l .i))),
-    )
+    let m = c .before .before .before .before .before .before .before .before .args .m .now in
+    (l .inv .0, omega arith, turned m (l .i) (c .compress .ensures) (l .inv .2) (c .before .before .padded-block .ensures))
 
 returns : tie.Need-returns Inv-loop μ-loop
 returns c =

@@ -1,76 +1,60 @@
--- `sha256::padded_block` meets its contract. The loop's invariant: the first j bytes are the padded message's, from 64 * i on.
--- Assumes nothing.
-use mathlib.Core.Path.{_≡_, refl, sym, _∙_}
-use mathlib.Core.List.{List}
-use Prim.Native.Nat.{ℕ, _+_, _-_, _*_, _≤_}
+-- `sha256::padded_block` meets its contract: block i is of the message, or the one that it ends in, or the last with the length alone, or past
+-- the last. Assumes nothing.
+use mathlib.Core.Path.{refl, sym, ap, _∙_}
 use native.Mathlib.Omega.{arith}
-use lib.ListN.{length, getD, replicate, getD-replicate}
-use Rattle.octets.specs.Lists.{tabled}
-use Rattle.octets.specs.Filled.{Filled, filled-none, filled-more, filled-all}
-use Rattle.sha256.specs.Padding.{pad}
+use Rattle.octets.specs.Filled.{filled-none}
 use Rattle.sha256.specs.Parsing.{blockAt}
-use Rattle.sha256.specs.PaddingLaws.{length-blocks, pad-past}
+use Rattle.sha256.specs.PaddingLaws.{blocks-count}
+use Rattle.sha256.proofs.Blocks.{begun, block-in, block-last, block-past}
 use borrow.Author.Needs.{needs}
 use Rattle.sha256.proofs.padded_block.Statement.{statement}
 use Rattle.sha256.proofs.padded_block.Tie as tie
 
-abbrev from : List ℕ → ℕ → ℕ → ℕ
-from m i k = getD (pad m) (64 * i + k) 0
+mul-front : tie.Need-mul-front
+mul-front c = search needs
 
-abbrev Inv-loop : tie.InvT-loop
-Inv-loop m i b₀ j₀ b j = (length b₀ ≡ 64) × (j ≤ 64) × Filled (from m i) b₀ b j
+front-requires : tie.Need-front-requires
+front-requires c κs = search needs
 
-abbrev μ-loop : tie.MeasureT-loop
-μ-loop m i b₀ j₀ b j = 64 - j
-
-block-count-requires : tie.Need-block-count-requires Inv-loop μ-loop
-block-count-requires c κs = search needs
-
-returns : tie.Need-returns Inv-loop μ-loop
-unfolding blockAt
+returns : tie.Need-returns
 returns c =
     let a = c .before .before .before .args in
-    tabled (from (a .m .now) (a .i)) 64 0 (replicate 64 0) 0 refl
-    (λ k h. getD-replicate 64 k 0 0 h ∙ sym (pad-past (a .m .now) (64 * a .i + k) (omega (arith, length-blocks (a .m .now)))))
+    block-in (a .m .now) (a .i) _ (begun (a .m .now) (a .i) (c .front .ensures) (omega arith) (λ j. refl))
 
-loop-holds : tie.Need-loop-holds Inv-loop μ-loop
-loop-holds c = (refl, search needs, filled-none _ _)
+ending-requires : tie.Need-ending-requires
+ending-requires c κs = search needs
 
-padded-byte-requires : tie.Need-padded-byte-requires Inv-loop μ-loop
-padded-byte-requires c κs = search needs
-
-array-write-b : tie.Need-array-write-b Inv-loop μ-loop
-array-write-b c = search needs
-
-add-j : tie.Need-add-j Inv-loop μ-loop
-add-j c = search needs
-
-loop-less : tie.Need-loop-less Inv-loop μ-loop
-loop-less c = search needs
-
-loop-again : tie.Need-loop-again Inv-loop μ-loop
-loop-again c =
-    let l = c .before .before .loop in
-    (l .inv .0, omega arith, filled-more (l .inv .2) (omega arith) (c .padded-byte .ensures))
-
-returns-2 : tie.Need-returns-2 Inv-loop μ-loop
-unfolding blockAt
+returns-2 : tie.Need-returns-2
 returns-2 c =
-    let l = c .before .loop in
-    filled-all 64 (l .inv .2) (l .inv .0) (omega arith)
+    let a = c .before .before .before .before .args in
+    c .ending .ensures ∙ ap (blockAt (a .m .now)) (sym (c .before .if2 .taken))
+
+block-count-requires : tie.Need-block-count-requires
+block-count-requires c κs = search needs
+
+put-length-requires : tie.Need-put-length-requires
+put-length-requires c κs = search needs
+
+returns-3 : tie.Need-returns-3
+returns-3 c =
+    let a = c .before .before .before .before .before .before .args in
+    block-last (a .m .now) (a .i) 0 (omega arith) (omega (arith, blocks-count (a .m .now))) (filled-none _ _) (c .put-length .ensures)
+
+returns-4 : tie.Need-returns-4
+returns-4 c =
+    let a = c .before .before .before .before .before .args in
+    block-past (a .m .now) (a .i) (omega arith)
 
 pub padded-block-spec : {M : Type 1} → statement M
 padded-block-spec =
     tie.close
     (tie.spec
-    Inv-loop
-    μ-loop
-    block-count-requires
+    mul-front
+    front-requires
     returns
-    loop-holds
-    padded-byte-requires
-    array-write-b
-    add-j
-    loop-less
-    loop-again
-    returns-2)
+    ending-requires
+    returns-2
+    block-count-requires
+    put-length-requires
+    returns-3
+    returns-4)
