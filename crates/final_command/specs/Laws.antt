@@ -14,7 +14,7 @@ use Rattle.octets.specs.Lists.{part, over, table, length-part}
 use Rattle.aes.specs.Aes.{aes, invAes}
 use Rattle.aes.specs.RoundTrip.{length-aes}
 use Rattle.padding.specs.Method2.{blocksFor}
-use Rattle.sha256.specs.Parsing.{blocks}
+use Rattle.sha_padding.specs.Parsing.{blocks}
 use Rattle.work.specs.Steps.{comparison, decipherment, encipherment, expansion, hashBlock, counted}
 use Rattle.work.specs.Laws.{counted-append, times-none, times-more}
 use Rattle.cbc.specs.Cbc.{decrypted, zeros}

@@ -11,9 +11,9 @@ use Rattle.octets.specs.Lists.{part}
 use Rattle.octets.specs.ByteLists.{cons-bytes, append-bytes, zeros-bytes, take-bytes}
 use Rattle.aes.specs.Aes.{invAes}
 use Rattle.aes.specs.RoundTrip.{aes-block}
-use Rattle.sha256.specs.Words.{wordBytes}
+use Rattle.sha_words.specs.Words.{wordBytes}
 use Rattle.sha256.specs.Hash.{sha256, digestBytes, stateAfter}
-use Rattle.sha256.specs.Parsing.{blocks}
+use Rattle.sha_padding.specs.Parsing.{blocks}
 use Rattle.padding.specs.Method2.{blocksFor, zeroBytes, padded, unpadded}
 use Rattle.padding.specs.Laws.{length-padded, unpadded-padded, padded-bytes}
 use Rattle.padding.specs.declared.Unpadded.the-variants.{Text}

@@ -1,10 +1,4 @@
-pub mod Words
-pub mod Functions
-pub mod WordLaws
 pub mod Constants
-pub mod Padding
-pub mod PaddingLaws
-pub mod Parsing
 pub mod Initial
 pub mod Hash
 pub mod Vectors

@@ -1,10 +1,10 @@
 -- The worked example of FIPS 180-4's companion "SHA256.pdf": the one-block message "abc". Assumes nothing.
 use mathlib.Core.Path.{_≡_, refl}
 use mathlib.Core.List.{[], _∷_}
-use Rattle.sha256.specs.Functions.{ch, maj, upperSigma0, upperSigma1, sigma0, sigma1}
+use Rattle.sha_words.specs.Functions.{ch, maj, upperSigma0, upperSigma1, sigma0, sigma1}
 use Rattle.sha256.specs.Constants.{constants}
-use Rattle.sha256.specs.Padding.{pad}
-use Rattle.sha256.specs.Parsing.{blockAt, blockWords}
+use Rattle.sha_padding.specs.Padding.{pad}
+use Rattle.sha_padding.specs.Parsing.{blockAt, blockWords}
 use Rattle.sha256.specs.Initial.{initialHash}
 use Rattle.sha256.specs.Hash.{schedule, turn, turns, compressed, stateAfter, digestBytes, sha256}
 

@@ -1,12 +1,16 @@
+//! SHA-256 of FIPS 180-4: the schedule, the 64 turns, and the hash of a message.
+use sha_words::add;
+use sha_words::choose;
+use sha_words::lower_sigma0;
+use sha_words::lower_sigma1;
+use sha_words::majority;
+use sha_words::upper_sigma0;
+use sha_words::upper_sigma1;
 ghost use mathlib.Core.Path.{_≡_};
-ghost use Prim.Native.Nat.{_+_, _*_, _/_, _<_, _≤_};
-ghost use lib.ListN.{length, getD, take, replicate};
-ghost use Rattle.octets.specs.Lists.{over};
-ghost use Rattle.octets.specs.Filled.{Filled};
-ghost use Rattle.sha256.specs.Words.{plus, rotr, word};
-ghost use Rattle.sha256.specs.Functions.{ch, maj, upperSigma0, upperSigma1, sigma0, sigma1};
-ghost use Rattle.sha256.specs.Padding.{be64};
-ghost use Rattle.sha256.specs.Parsing.{blocks, blockAt, blockWords};
+ghost use Prim.Native.Nat.{_<_};
+ghost use lib.ListN.{take};
+ghost use Rattle.sha_words.specs.Words.{word};
+ghost use Rattle.sha_padding.specs.Parsing.{blocks, blockWords};
 ghost use Rattle.sha256.specs.Initial.{initialHash};
 ghost use Rattle.sha256.specs.Hash.{nextWord, schedule, turn, turns, compressed, stateAfter, digestBytes, sha256};
 
@@ -77,59 +81,6 @@ const K: [u32; 64] = [
     0xbef9a3f7,
     0xc67178f2,
 ];
-
-// Addition modulo 2^32.
-fn add(a: u32, b: u32) -> u32
-    ensures { λ r. ⌜ r ≡ plus a b ⌝ }
-{
-    std::num::wrapping_add_u32(a, b)
-}
-
-// The rotation ROTR^n of section 3.2.
-fn rotr(n: u32, x: u32) -> u32
-    requires { ⌜ 0 < n ⌝ }
-    requires { ⌜ n < 32 ⌝ }
-    ensures { λ r. ⌜ r ≡ rotr n x ⌝ }
-{
-    (x >> n) | (x << (32 - n))
-}
-
-// The six functions of section 4.1.2, in forms that take fewer instructions: a rotation of a sum is the sum of the rotations.
-fn upper_sigma0(x: u32) -> u32
-    ensures { λ r. ⌜ r ≡ upperSigma0 x ⌝ }
-{
-    rotr(2, rotr(11, rotr(9, x) ^ x) ^ x)
-}
-
-fn upper_sigma1(x: u32) -> u32
-    ensures { λ r. ⌜ r ≡ upperSigma1 x ⌝ }
-{
-    rotr(6, rotr(5, rotr(14, x) ^ x) ^ x)
-}
-
-fn lower_sigma0(x: u32) -> u32
-    ensures { λ r. ⌜ r ≡ sigma0 x ⌝ }
-{
-    rotr(7, rotr(11, x) ^ x) ^ (x >> 3)
-}
-
-fn lower_sigma1(x: u32) -> u32
-    ensures { λ r. ⌜ r ≡ sigma1 x ⌝ }
-{
-    rotr(17, rotr(2, x) ^ x) ^ (x >> 10)
-}
-
-fn choose(x: u32, y: u32, z: u32) -> u32
-    ensures { λ r. ⌜ r ≡ ch x y z ⌝ }
-{
-    (x & (y ^ z)) ^ z
-}
-
-fn majority(x: u32, y: u32, z: u32) -> u32
-    ensures { λ r. ⌜ r ≡ maj x y z ⌝ }
-{
-    ((x ^ y) & (y ^ z)) ^ y
-}
 
 // One turn of the 64, on a to h.
 fn one_turn(v: [u32; 8], k: u32, w: u32) -> [u32; 8]
@@ -256,78 +207,6 @@ pub fn initial() -> [u32; 8]
     ]
 }
 
-// How many blocks the padded message has.
-pub fn block_count(m: &[u8]) -> usize
-    ensures { λ r. ⌜ r ≡ blocks (now (m .entry)) ⌝ }
-{
-    let n = m.len();
-    n / 64 + 1 + (n % 64 + 8) / 64
-}
-
-// The length in bits of n bytes, modulo 2^64, written over the last eight bytes of a block.
-fn put_length(b: [u8; 64], n: usize) -> [u8; 64]
-    ensures { λ r. ⌜ r ≡ over b 56 (be64 (8 * n)) ⌝ }
-{
-    let bits = n % 0x2000_0000_0000_0000 * 8;
-    let mut t = b;
-    t[56] = ((bits >> 56) % 256) as u8;
-    t[57] = ((bits >> 48) % 256) as u8;
-    t[58] = ((bits >> 40) % 256) as u8;
-    t[59] = ((bits >> 32) % 256) as u8;
-    t[60] = ((bits >> 24) % 256) as u8;
-    t[61] = ((bits >> 16) % 256) as u8;
-    t[62] = ((bits >> 8) % 256) as u8;
-    t[63] = (bits % 256) as u8;
-    t
-}
-
-// k bytes of the message from a place on, and zeros behind them.
-fn front(m: &[u8], at: usize, k: usize) -> [u8; 64]
-    requires { ⌜ at + k ≤ length (now m) ⌝ }
-    requires { ⌜ k ≤ 64 ⌝ }
-    ensures { λ r. ⌜ Filled (λ j. getD (now (m .entry)) (at + j) 0) (replicate 64 0) r k ⌝ }
-{
-    let mut b = [0u8; 64];
-    let mut j: usize = 0;
-    while j < k {
-        b[j] = m[at + j];
-        j += 1;
-    }
-    b
-}
-
-// The block in which the message ends: what is left of it, the byte 0x80, and the length where eight bytes are free behind that.
-fn ending(m: &[u8]) -> [u8; 64]
-    ensures { λ r. ⌜ r ≡ blockAt (now (m .entry)) (length (now (m .entry)) / 64) ⌝ }
-{
-    let n = m.len();
-    let rest = n % 64;
-    let mut b = front(m, n - rest, rest);
-    b[rest] = 0x80;
-    if rest < 56 {
-        return put_length(b, n);
-    }
-    b
-}
-
-// Block i of the padded message; zeros past the last.
-pub fn padded_block(m: &[u8], i: usize) -> [u8; 64]
-    ensures { λ r. ⌜ r ≡ blockAt (now (m .entry)) i ⌝ }
-{
-    let n = m.len();
-    if i < n / 64 {
-        return front(m, 64 * i, 64);
-    }
-    if i == n / 64 {
-        return ending(m);
-    }
-    let zeros = [0u8; 64];
-    if i < block_count(m) {
-        return put_length(zeros, n);
-    }
-    zeros
-}
-
 // The digest: the words of a hash value as bytes, of each the most significant first.
 pub fn to_bytes(h: [u32; 8]) -> [u8; 32]
     ensures { λ r. ⌜ r ≡ digestBytes h ⌝ }
@@ -356,11 +235,11 @@ pub struct Hashed {
 pub fn hash(m: &[u8]) -> Hashed
     ensures { λ r. ⌜ r ≡ record { state = stateAfter (now (m .entry)) (blocks (now (m .entry))); blocks = blocks (now (m .entry)) } ⌝ }
 {
-    let n = block_count(m);
+    let n = sha_padding::block_count(m);
     let mut h = initial();
     let mut i: usize = 0;
     while i < n {
-        let b = padded_block(m, i);
+        let b = sha_padding::padded_block(m, i);
         let x = compress(h, &b);
         h = x;
         i += 1;

@@ -10,8 +10,8 @@ use lib.Dec.{eqb}
 use lib.ListN.{length}
 use borrow.Author.Tests.{ne-eqb, eq-eqb, eqb-true}
 use Rattle.octets.specs.Lists.{table}
-use Rattle.sha256.specs.Parsing.{blocks}
-use Rattle.sha256.specs.PaddingLaws.{blocks-count}
+use Rattle.sha_padding.specs.Parsing.{blocks}
+use Rattle.sha_padding.specs.PaddingLaws.{blocks-count}
 use Rattle.work.specs.Steps.{hashBlock, counted}
 use Rattle.steps.specs.Made.{hashStep, hashSteps, kept}
 

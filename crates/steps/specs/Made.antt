@@ -5,7 +5,7 @@ use Prim.Native.Nat.{ℕ, suc, _/_, _%_}
 use lib.Dec.{eqb}
 use Rattle.octets.specs.Lists.{table}
 use Rattle.aes.specs.KeyExpansion.{roundKeys}
-use Rattle.sha256.specs.Parsing.{blocks, blockAt}
+use Rattle.sha_padding.specs.Parsing.{blocks, blockAt}
 use Rattle.sha256.specs.Hash.{stateAfter, digestBytes}
 use Rattle.work.specs.Steps.{Step, comparison, expansion, hashBlock}
 use Rattle.plaid_types.specs.declared.KeySetId.{KeySetId}

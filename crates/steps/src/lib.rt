@@ -65,12 +65,12 @@ pub struct Hashing {
 pub fn hash(m: &[u8], sum: u32) -> Hashing
     ensures { λ r. ⌜ r ≡ record { digest = sha256 (now (m .entry)); count = counted hashBlock (hashSteps (now (m .entry))); sum = sumFrom sum (hashSteps (now (m .entry))) } ⌝ }
 {
-    let n = sha256::block_count(m);
+    let n = sha_padding::block_count(m);
     let mut h = sha256::initial();
     let mut s = sum;
     let mut i: usize = 0;
     while i < n {
-        let b = sha256::padded_block(m, i);
+        let b = sha_padding::padded_block(m, i);
         let x = sha256::compress(h, &b);
         let o = sha256::to_bytes(x);
         s = work::mix_step(s, 5, &[], &b, &o);

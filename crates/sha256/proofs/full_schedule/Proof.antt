@@ -10,8 +10,8 @@ use lib.ListN.{length, getD, take, set, length-set}
 use lib.Seq.{take-suc-set, getD-take, take-all}
 use mir.Syntax.{w64}
 use mir.Val.{Fits}
-use Rattle.sha256.specs.Functions.{sigma0, sigma1}
-use Rattle.sha256.specs.Parsing.{blockWords}
+use Rattle.sha_words.specs.Functions.{sigma0, sigma1}
+use Rattle.sha_padding.specs.Parsing.{blockWords}
 use Rattle.sha256.specs.Hash.{nextWord, schedule}
 use Rattle.sha256.proofs.Sums.{summed}
 use borrow.Author.Needs.{needs}

@@ -5,7 +5,7 @@ use Prim.Native.Nat.{ℕ, _+_, _-_, _≤_}
 use native.Mathlib.Omega.{arith}
 use native.Mathlib.Numerals.{add-one}
 use Rattle.sha256.specs.declared.Hashed.{Hashed}
-use Rattle.sha256.specs.Parsing.{blocks, blockAt}
+use Rattle.sha_padding.specs.Parsing.{blocks, blockAt}
 use Rattle.sha256.specs.Hash.{compressed, stateAfter}
 use borrow.Author.Needs.{needs}
 use Rattle.sha256.proofs.hash.Statement.{statement}

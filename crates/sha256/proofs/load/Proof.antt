@@ -6,7 +6,7 @@ use lib.ListN.{length, take}
 use lib.Seq.{getD-take, length-take-le}
 use Rattle.octets.specs.Lists.{tabled}
 use Rattle.octets.specs.Filled.{Filled, filled-none, filled-more}
-use Rattle.sha256.specs.Parsing.{blockWord, blockWords}
+use Rattle.sha_padding.specs.Parsing.{blockWord, blockWords}
 use borrow.Author.Needs.{needs}
 use Rattle.sha256.proofs.load.Statement.{statement}
 use Rattle.sha256.proofs.load.Tie as tie

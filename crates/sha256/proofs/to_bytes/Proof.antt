@@ -6,7 +6,7 @@ use Prim.Native.Nat.{ℕ, _+_, _-_, _*_, _/_, _%_, _^_, _<_, _≤_}
 use native.Mathlib.Omega.{arith}
 use lib.ListN.{length, getD, set}
 use Rattle.octets.specs.Filled.{Filled, filled-none, filled-more, filled-all}
-use Rattle.sha256.specs.Words.{wordBytes}
+use Rattle.sha_words.specs.Words.{wordBytes}
 use Rattle.sha256.specs.Hash.{digestBytes}
 use borrow.Author.Needs.{needs}
 use Rattle.sha256.proofs.to_bytes.Statement.{statement}

@@ -5,7 +5,7 @@ use Prim.Native.Nat.{ℕ, _-_, _≤_}
 use native.Mathlib.Omega.{arith}
 use native.Mathlib.Numerals.{add-one}
 use Rattle.octets.specs.Lists.{table}
-use Rattle.sha256.specs.Parsing.{blocks}
+use Rattle.sha_padding.specs.Parsing.{blocks}
 use Rattle.sha256.specs.Hash.{stateAfter, digestBytes, sha256}
 use Rattle.work.specs.Steps.{hashBlock, sumFrom}
 use Rattle.steps.specs.declared.Hashing.{Hashing}
