@@ -8,8 +8,8 @@ use sha_words::upper_sigma0;
 use sha_words::upper_sigma1;
 ghost use mathlib.Core.Path.{_≡_};
 ghost use Prim.Native.Nat.{_<_};
-ghost use lib.ListN.{take};
-ghost use Rattle.sha_words.specs.Words.{word};
+ghost use lib.ListN.{getD, take};
+ghost use Rattle.sha_words.specs.Words.{word, wordBytes};
 ghost use Rattle.sha_padding.specs.Parsing.{blocks, blockWords};
 ghost use Rattle.sha256.specs.Initial.{initialHash};
 ghost use Rattle.sha256.specs.Hash.{nextWord, schedule, turn, turns, compressed, stateAfter, digestBytes, sha256};
@@ -207,19 +207,22 @@ pub fn initial() -> [u32; 8]
     ]
 }
 
-// The digest: the words of a hash value as bytes, of each the most significant first.
+// Byte k of a word, the first the most significant.
+fn word_byte(x: u32, k: usize) -> u8
+    requires { ⌜ k < 4 ⌝ }
+    ensures { λ r. ⌜ r ≡ getD (wordBytes x) k 0 ⌝ }
+{
+    ((x >> (24 - 8 * k)) % 256) as u8
+}
+
+// The digest: the words of a hash value as bytes.
 pub fn to_bytes(h: [u32; 8]) -> [u8; 32]
     ensures { λ r. ⌜ r ≡ digestBytes h ⌝ }
 {
     let mut d = [0u8; 32];
     let mut i: usize = 0;
-    while i < 8 {
-        let x = h[i];
-        let j = 4 * i;
-        d[j] = ((x >> 24) % 256) as u8;
-        d[j + 1] = ((x >> 16) % 256) as u8;
-        d[j + 2] = ((x >> 8) % 256) as u8;
-        d[j + 3] = (x % 256) as u8;
+    while i < 32 {
+        d[i] = word_byte(h[i / 4], i % 4);
         i += 1;
     }
     d

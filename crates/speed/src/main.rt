@@ -3,7 +3,8 @@
 //
 // Each operation starts from a published example, so that what one time gives is that example's result: FIPS 197 C.1 for
 // encipher and decipher, FIPS 197 A.1 for expand (the last round key), SP 800-38A F.2.1 and F.2.2 for the two of CBC (four
-// blocks). sha256-N is of N bytes, which are zeros the first time; each digest then goes over the first 32.
+// blocks). sha256-N is of N bytes, which are zeros the first time; each digest then goes over the first 32. work-sum is of the round keys of
+// A.1, from 0.
 ghost use Prim.Native.Nat.{_≤_};
 ghost use lib.ListN.{length};
 
@@ -131,6 +132,23 @@ fn show_chain(digits: &[u8], is_inverse: bool, times: usize) {
     }
 }
 
+// The work sum over eleven round keys, at least once, by two calls as above.
+fn sum_rows(times: usize) -> u32 {
+    let w = aes::expand(block(b"2b7e151628aed2a6abf7158809cf4f3c"));
+    let mut sum = work::mix_rows(0, &w);
+    let mut i = 1;
+    while i < times {
+        sum = work::mix_rows(sum, &w);
+        i += 1;
+    }
+    sum
+}
+
+fn show_sum(sum: u32) {
+    io::print_decimal(1, sum as u64);
+    rsp::say(b"\n");
+}
+
 fn operate(name: &[u8], times: usize) {
     if times == rsp::NONE {
         rsp::say(b"no number\n");
@@ -140,6 +158,8 @@ fn operate(name: &[u8], times: usize) {
         show_block(decipher(times));
     } else if check::same(name, b"expand") {
         show_block(expand(times));
+    } else if check::same(name, b"work-sum") {
+        show_sum(sum_rows(times));
     } else if rsp::starts(name, 0, b"sha256-") {
         show_hash(rsp::decimal(name, 7), times);
     } else if check::same(name, b"cbc-encipher") {
