@@ -23,12 +23,11 @@ fn rot_sub(table: &[u8; 256], w: u32, x: u8) -> u32
     )
 }
 
-// The round key after s, with the round constant x, a word at a time.
-fn next_key(table: &[u8; 256], s: Columns, x: u8) -> Columns
-    requires { ⌜ now table ≡ sboxTable ⌝ }
-    ensures { λ r. ⌜ stateOf r ≡ nextKey (stateOf s) x ⌝ }
+// Each word ⊕ the new one before it, the first ⊕ t.
+fn chained(s: Columns, t: u32) -> Columns
+    ensures { λ r. ⌜ (r .c0 ≡ bitXor (s .c0) t) × (r .c1 ≡ bitXor (s .c1) (r .c0)) × (r .c2 ≡ bitXor (s .c2) (r .c1)) × (r .c3 ≡ bitXor (s .c3) (r .c2)) ⌝ }
 {
-    let a = s.c0 ^ rot_sub(table, s.c3, x);
+    let a = s.c0 ^ t;
     let b = s.c1 ^ a;
     let c = s.c2 ^ b;
     Columns {
@@ -37,6 +36,14 @@ fn next_key(table: &[u8; 256], s: Columns, x: u8) -> Columns
         c2: c,
         c3: s.c3 ^ c,
     }
+}
+
+// The round key after s, with the round constant x, a word at a time.
+fn next_key(table: &[u8; 256], s: Columns, x: u8) -> Columns
+    requires { ⌜ now table ≡ sboxTable ⌝ }
+    ensures { λ r. ⌜ stateOf r ≡ nextKey (stateOf s) x ⌝ }
+{
+    chained(s, rot_sub(table, s.c3, x))
 }
 
 // KEYEXPANSION: the eleven round keys, one a row. The last one stays in words for the next.

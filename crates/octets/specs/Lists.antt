@@ -7,6 +7,10 @@ use native.Mathlib.Omega.{arith}
 use lib.ListN.{length, getD, take, drop, length-append, length-drop, drop-of-length-le, take-append-drop}
 use lib.Seq.{length-take-le, drop-cons, getD-drop, getD-take}
 
+-- one element equal, and the rest
+pub cons : {a b : ℕ} {s t : List ℕ} → a ≡ b → s ≡ t → _≡_ {A = List ℕ} (a ∷ s) (b ∷ t)
+cons p q = ap₂ (λ (x : ℕ) (l : List ℕ). x ∷ l) p q
+
 -- f at n numbers, from j on
 abbrev pub table : {A : Type 0} → (ℕ → A) → ℕ → ℕ → List A
 table f zero j = []

@@ -1,5 +1,5 @@
 -- A state by its bytes, and that each step takes blocks to blocks. Assumes nothing.
-use mathlib.Core.Path.{_≡_, refl, sym, ap₂, _∙_}
+use mathlib.Core.Path.{_≡_, refl, sym, _∙_}
 use mathlib.Core.List.{List, [], _∷_}
 use Prim.Native.Nat.{ℕ, zero, suc, _+_, _-_, _*_, _%_, _<_}
 use native.Mathlib.Omega.{arith}
@@ -7,7 +7,7 @@ use lib.Dec.{T, ltb, ltb→lt}
 use lib.ListN.{length, getD}
 use lib.Bits.{bitXor}
 use Rattle.octets.specs.Bytes.{Bytes, Block}
-use Rattle.octets.specs.Lists.{tabled}
+use Rattle.octets.specs.Lists.{cons, tabled}
 use Rattle.field.specs.Matrix.{rowTimes}
 use Rattle.field.specs.Linear.{rowTimes-lt, xor-byte}
 use Rattle.sbox.specs.SubBytes.{sbox}
@@ -20,9 +20,6 @@ use Rattle.rounds.specs.InvCipher.{invSubBytes, invShiftRows}
 -- a list of sixteen is the state of its bytes
 pub eta : (s : List ℕ) → length s ≡ 16 → s ≡ state (cell s)
 eta s e = tabled (λ i. getD s i 0) 16 0 s 0 (omega arith) (λ i h. refl)
-
-cons : {a b : ℕ} {s t : List ℕ} → a ≡ b → s ≡ t → _≡_ {A = List ℕ} (a ∷ s) (b ∷ t)
-cons p q = ap₂ (λ (x : ℕ) (l : List ℕ). x ∷ l) p q
 
 -- two states are equal where their bytes are
 pub same16 : {a0 b0 a1 b1 a2 b2 a3 b3 a4 b4 a5 b5 a6 b6 a7 b7 a8 b8 a9 b9 a10 b10 a11 b11 a12 b12 a13 b13 a14 b14 a15 b15 : ℕ} →

@@ -110,7 +110,7 @@ module _ (m : List ℕ) where
       ⊎-elim
       (λ (p : 56 - j ≡ 0).
       over-in b s 56 j (j - 56) (omega arith) (omega arith) (omega arith)
-      ∙ sym (pad-length m (64 * i + j) (j - 56) (omega (arith, length-pad m, length-blocks m)) (omega arith)))
+      ∙ sym (pad-length m (64 * i + j) (j - 56) (omega (arith, length-pad m, length-blocks m))))
       (λ (p : 0 < 56 - j). over-before b s 56 j (omega arith) (omega arith) ∙ z j (omega arith))
       (eq-zero-or-pos (56 - j)))
 

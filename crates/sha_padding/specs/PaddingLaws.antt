@@ -72,8 +72,8 @@ module _ (m : List ℕ) where
       ∙ getD-replicate (zeroBytes (length m)) (i - length m - 1) 0 0 (omega arith)
 
   -- the length in bits
-  pub pad-length : (i j : ℕ) → i ≡ length m + 1 + zeroBytes (length m) + j → j < 8 → getD (pad m) i 0 ≡ getD (be64 (8 * length m)) j 0
-  pad-length i j e h =
+  pub pad-length : (i j : ℕ) → i ≡ length m + 1 + zeroBytes (length m) + j → getD (pad m) i 0 ≡ getD (be64 (8 * length m)) j 0
+  pad-length i j e =
       beyond i (zeroBytes (length m) + j) (omega arith)
       ∙ past zeros (be64 (8 * length m)) (zeroBytes (length m) + j) j (omega (arith, zeros-long))
 

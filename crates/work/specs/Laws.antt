@@ -1,6 +1,6 @@
 -- Laws of the work sum and the counts: what lists one behind the other give. Assumes nothing.
 use mathlib.Core.Bool.{Bool, true, false, cond}
-use mathlib.Core.Path.{_≡_, refl, sym}
+use mathlib.Core.Path.{_≡_, refl, sym, ap, _∙_}
 use mathlib.Core.List.{List, [], _∷_, _++_}
 use Prim.Native.Nat.{ℕ, suc, _+_, _*_}
 use native.Mathlib.Nat.{zero-add, add-assoc}
@@ -11,6 +11,14 @@ use Rattle.work.specs.Steps.{Step, bytesOf, mixed, mixedAll, sumFrom, co
 pub mixedAll-append : (s : ℕ) (xs ys : List ℕ) → mixedAll s (xs ++ ys) ≡ mixedAll (mixedAll s xs) ys
 mixedAll-append s [] ys = refl
 mixedAll-append s (x ∷ xs) ys = mixedAll-append (mixed s x) xs ys
+
+-- a step part by part
+pub mixed-step : (s : ℕ) (t : Step) {a b c d : ℕ} → a ≡ mixed s (t .kind) → b ≡ mixedAll a (t .key) → c ≡ mixedAll b (t .input) → d ≡ mixedAll c (t .output) → d ≡ mixedAll s (bytesOf t)
+mixed-step s t p q r e =
+    let m : ℕ = mixed s (t .kind) in
+    e
+    ∙ ap (λ (x : ℕ). mixedAll x (t .output)) (r ∙ ap (λ (x : ℕ). mixedAll x (t .input)) (q ∙ ap (λ (x : ℕ). mixedAll x (t .key)) p))
+    ∙ sym (mixedAll-append m (t .key ++ t .input) (t .output) ∙ ap (λ (x : ℕ). mixedAll x (t .output)) (mixedAll-append m (t .key) (t .input)))
 
 pub sumFrom-append : (s : ℕ) (xs ys : List Step) → sumFrom s (xs ++ ys) ≡ sumFrom (sumFrom s xs) ys
 sumFrom-append s [] ys = refl

@@ -1,5 +1,4 @@
--- `aes::next_key` meets its contract: column by column, each with the new one before it. Assumes nothing.
-use mathlib.Core.Path.{refl}
+-- `aes::next_key` meets its contract: the words mean the next round key. Assumes nothing.
 use mir.Syntax.{w8}
 use mir.Val.{Fits}
 use Rattle.aes.specs.NextWords.{next-words}
@@ -10,12 +9,16 @@ use Rattle.aes.proofs.next_key.Tie as tie
 rot-sub-requires : tie.Need-rot-sub-requires
 rot-sub-requires c κs = search needs
 
+chained-requires : tie.Need-chained-requires
+chained-requires c κs = search needs
+
 returns : tie.Need-returns
 returns c =
-    let b = c .before .before .before .before in
+    let b = c .before in
     let a = b .before .args in
     let x : Fits w8 (a .x) = search needs in
-    next-words (a .s) (a .x) (search needs) (x .fits) (b .before .pre) (b .rot-sub .ensures) refl refl refl refl
+    let e = c .chained .ensures in
+    next-words (a .s) (a .x) (search needs) (x .fits) (b .before .pre) (b .rot-sub .ensures) (e .0) (e .1) (e .2) (e .3)
 
 pub next-key-spec : {M : Type 1} → statement M
-next-key-spec = tie.close (tie.spec rot-sub-requires returns)
+next-key-spec = tie.close (tie.spec rot-sub-requires chained-requires returns)

@@ -1,16 +1,14 @@
 -- `sha256::compress` meets its contract: the schedule goes into the turns, and what they give is added word by word. Assumes nothing.
-use mathlib.Core.Path.{_≡_, refl, ap, ap₂, _∙_}
+use mathlib.Core.Path.{_≡_, refl, ap, _∙_}
 use mathlib.Core.List.{List, [], _∷_}
 use Prim.Native.Nat.{ℕ}
 use lib.ListN.{getD}
+use Rattle.octets.specs.Lists.{cons}
 use Rattle.sha_words.specs.Words.{plus}
 use Rattle.sha256.specs.Hash.{turns, sums, compressed}
 use borrow.Author.Needs.{needs}
 use Rattle.sha256.proofs.compress.Statement.{statement}
 use Rattle.sha256.proofs.compress.Tie as tie
-
-cons : {a b : ℕ} {s t : List ℕ} → a ≡ b → s ≡ t → _≡_ {A = List ℕ} (a ∷ s) (b ∷ t)
-cons p q = ap₂ (λ (x : ℕ) (l : List ℕ). x ∷ l) p q
 
 module _ (v h : List ℕ) where
   abbrev at : ℕ → ℕ

@@ -1,12 +1,13 @@
--- `sha256::initial` meets its contract: the code is the definition, opened. Assumes nothing.
+-- `sha256::initial` meets its contract, word by word. Assumes nothing.
 use mathlib.Core.Path.{refl}
+use Rattle.octets.specs.Lists.{cons}
 use Rattle.sha256.specs.Initial.{initialHash}
 use Rattle.sha256.proofs.initial.Statement.{statement}
 use Rattle.sha256.proofs.initial.Tie as tie
 
 returns : tie.Need-returns
 unfolding initialHash
-returns c = refl
+returns c = cons refl (cons refl (cons refl (cons refl (cons refl (cons refl (cons refl (cons refl refl)))))))
 
 pub initial-spec : {M : Type 1} → statement M
 initial-spec = tie.close (tie.spec returns)

@@ -7,7 +7,7 @@ use borrow.Author.Needs.{needs}
 use mir.Syntax.{w8, w32}
 use mir.Val.{Fits}
 use lib.ListN.{length, drop, getD, drop-of-length-le}
-use Rattle.octets.specs.Lists.{table, getD-table}
+use Rattle.octets.specs.Lists.{cons, table, getD-table}
 use Rattle.work.specs.Steps.{mixedAll}
 use Rattle.work.specs.Weights.{weight, weighed, ones, mixed-weighed}
 use Rattle.work.proofs.Turns.{weights-turn, weighed-small}
@@ -44,7 +44,13 @@ add-sum : tie.Need-add-sum Inv-loop μ-loop
 add-sum c = search needs
 
 loop-holds : tie.Need-loop-holds Inv-loop μ-loop
-loop-holds c = (refl, search needs, refl, omega arith)
+loop-holds c = (
+  cons refl (cons refl (cons refl (cons refl (cons refl (cons refl (cons refl (cons refl
+      (cons refl (cons refl (cons refl (cons refl (cons refl (cons refl (cons refl (cons refl refl))))))))))))))),
+  search needs,
+  refl,
+  omega arith,
+)
 
 mul-sum-2 : tie.Need-mul-sum-2 Inv-loop μ-loop
 mul-sum-2 c = search needs

@@ -1,6 +1,6 @@
 -- `mix_rows` meets its contract. The loop's law is that of Turns. Assumes nothing.
 use Prim.Native.Nat.{_≤_, _-_}
-use mathlib.Core.Path.{_≡_}
+use mathlib.Core.Path.{_≡_, refl}
 use mathlib.Core.List.{flatten}
 use native.Mathlib.Omega.{arith}
 use lib.ListN.{length, drop}
@@ -17,7 +17,7 @@ abbrev μ-loop : tie.MeasureT-loop
 μ-loop s rows list sum₀ row₀ sum row = length rows - row
 
 loop-holds : tie.Need-loop-holds Inv-loop μ-loop
-loop-holds c = search needs
+loop-holds c = (search needs, refl)
 
 mul-mix-block : tie.Need-mul-mix-block Inv-loop μ-loop
 mul-mix-block c = search needs

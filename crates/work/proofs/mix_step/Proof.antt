@@ -1,6 +1,6 @@
 -- `mix_step` meets its contract: the sum of the parts one after the other is that of the whole. Assumes nothing.
 use borrow.Author.Needs.{needs}
-use Rattle.work.specs.Laws.{mixedAll-append}
+use Rattle.work.specs.Laws.{mixed-step}
 use Rattle.work.proofs.mix_step.Statement.{statement}
 use Rattle.work.proofs.mix_step.Tie as tie
 
@@ -18,13 +18,9 @@ mix-all-requires-3 c κs = search needs
 
 returns : tie.Need-returns
 returns c =
-    simp (
-      c .mix-all3 .ensures,
-      c .before .mix-all2 .ensures,
-      c .before .before .mix-all .ensures,
-      c .before .before .before .mix .ensures,
-      mixedAll-append,
-    )
+    let b = c .before .before .before in
+    let a = b .before .before .before .before .args in
+    mixed-step (a .s) (record { kind = a .kind; key = a .key .now; input = a .input .now; output = a .output .now }) (b .mix .ensures) (c .before .before .mix-all .ensures) (c .before .mix-all2 .ensures) (c .mix-all3 .ensures)
 
 pub mix-step-spec : {M : Type 1} → statement M
 mix-step-spec =

@@ -1,14 +1,18 @@
 -- `mix_two` meets its contract: the weights of two bytes. Assumes nothing.
-use Prim.Native.Nat.{_/_, _%_}
-use mathlib.Core.Path.{sym, _∙_}
+use Prim.Native.Nat.{ℕ, _+_, _*_, _/_, _%_, _^_}
+use mathlib.Core.Path.{_≡_, sym, ap, _∙_}
 use mathlib.Core.List.{[], _∷_}
 use native.Mathlib.Omega.{arith}
 use mir.Syntax.{w32}
 use mir.Val.{Fits}
-use Rattle.work.specs.Weights.{mixed-weighed}
+use Rattle.work.specs.Weights.{weight, weighed, ones, mixed-weighed}
 use borrow.Author.Needs.{needs}
 use Rattle.work.proofs.mix_two.Statement.{statement}
 use Rattle.work.proofs.mix_two.Tie as tie
+
+-- the number by its two bytes
+split : (s v : ℕ) → 66049 * s + v + v / 256 + 258 ≡ weight 2 * s + (weighed (v / 256 ∷ v % 256 ∷ []) + ones 2)
+split s v = omega arith
 
 mul-result : tie.Need-mul-result
 mul-result c = search needs
@@ -32,7 +36,7 @@ returns : tie.Need-returns
 returns c =
     let v = c .args .v in
     let s : Fits w32 (c .args .s) = search needs in
-    omega (arith, mixed-weighed (c .args .s) (v / 256 ∷ v % 256 ∷ []) (s .fits))
+    ap (λ (n : ℕ). n % 2 ^ 32) (split (c .args .s) v) ∙ sym (mixed-weighed (c .args .s) (v / 256 ∷ v % 256 ∷ []) (s .fits))
 
 pub mix-two-spec : {M : Type 1} → statement M
 mix-two-spec =
