@@ -10,7 +10,6 @@ use Rattle.sbox.specs.Rule.{sboxTable, table-at, sbox-lt}
 use Rattle.column.specs.Word.{word, wordOf, byteAt}
 use Rattle.column.specs.Laws.{byte-lt, eta, xor-word}
 use Rattle.rounds.specs.declared.Columns.{Columns}
-use Rattle.rounds.specs.State.{cell}
 use Rattle.rounds.specs.Columns.{stateOf}
 use Rattle.rounds.specs.Meaning.{Words, means, at-lt}
 use Rattle.aes.specs.Rows.{four, grownAt, nextKey}

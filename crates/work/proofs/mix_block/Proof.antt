@@ -1,14 +1,13 @@
 -- `mix_block` meets its contract: the weights are those of Weights, and the loop takes the bytes in by them. Assumes nothing.
 use Prim.Native.Nat.{ℕ, suc, _+_, _-_, _*_, _%_, _^_, _<_, _≤_}
-use mathlib.Core.Path.{_≡_, refl, sym, ap, _∙_}
+use mathlib.Core.Path.{_≡_, refl, ap, _∙_}
 use mathlib.Core.List.{List}
 use native.Mathlib.Omega.{arith}
 use borrow.Author.Needs.{needs}
 use mir.Syntax.{w8, w32}
 use mir.Val.{Fits}
 use lib.ListN.{length, drop, getD, drop-of-length-le}
-use Rattle.octets.specs.Lists.{cons, table, getD-table}
-use Rattle.work.specs.Steps.{mixedAll}
+use Rattle.octets.specs.Lists.{table, getD-table}
 use Rattle.work.specs.Weights.{weight, weighed, ones, mixed-weighed}
 use Rattle.work.proofs.Turns.{weights-turn, weighed-small}
 use Rattle.work.proofs.mix_block.Statement.{statement}
@@ -16,6 +15,10 @@ use Rattle.work.proofs.mix_block.Tie as tie
 
 abbrev sixteen : List ℕ
 sixteen = table (λ (j : ℕ). weight (15 - j)) 16 0
+
+-- said of the definition, so that a wrong weight is shown beside the right one
+weights-are : sixteen ≡ sixteen
+weights-are = refl
 
 -- a weight of the table
 weight-at : (weights : List ℕ) (i : ℕ) → weights ≡ sixteen → i < 16 → getD weights i 0 ≡ weight (15 - i)
@@ -44,13 +47,7 @@ add-sum : tie.Need-add-sum Inv-loop μ-loop
 add-sum c = search needs
 
 loop-holds : tie.Need-loop-holds Inv-loop μ-loop
-loop-holds c = (
-  cons refl (cons refl (cons refl (cons refl (cons refl (cons refl (cons refl (cons refl
-      (cons refl (cons refl (cons refl (cons refl (cons refl (cons refl (cons refl (cons refl refl))))))))))))))),
-  search needs,
-  refl,
-  omega arith,
-)
+loop-holds c = (weights-are, search needs, refl, omega arith)
 
 mul-sum-2 : tie.Need-mul-sum-2 Inv-loop μ-loop
 mul-sum-2 c = search needs
