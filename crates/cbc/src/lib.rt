@@ -1,12 +1,14 @@
 //! CBC in place over the whole blocks of a lent buffer, with what its cipher steps add to the counts and the work sum.
+use work::Prepared;
 ghost use mathlib.Core.Path.{_≡_};
 ghost use Prim.Native.Nat.{_+_, _/_, _^_, _<_};
 ghost use lib.ListN.{length};
 ghost use Rattle.rounds.specs.Cipher.{cipher};
 ghost use Rattle.rounds.specs.InvCipher.{invCipher};
-ghost use Rattle.work.specs.Steps.{encipherment, decipherment, bytesOf, mixedAll};
+ghost use Rattle.work.specs.Steps.{encipherment, decipherment, mixed, mixedAll};
+ghost use Rattle.work.specs.Weights.{mixedPrepared};
 ghost use Rattle.cbc.specs.Cbc.{_⊕_, encryptedWhole, decryptedWhole};
-ghost use Rattle.cbc.specs.Steps.{encipherStep, decipherStep, enciphered, deciphered, made};
+ghost use Rattle.cbc.specs.Steps.{enciphered, deciphered, made};
 
 // How many steps were made, and the work sum after them.
 pub struct Made {
@@ -26,9 +28,9 @@ const DECIPHERMENT: u8 = 2;
 
 const ENCIPHERMENT: u8 = 3;
 
-// One block encrypted after the block before it. The key is only what the work sum shows.
+// One block encrypted after the block before it. The key is only what the work sum shows, and prepared for that.
 fn encipher_block(
-    key: &[u8],
+    key: Prepared,
     w: &[[u8; 16]; 11],
     before: [u8; 16],
     plain: [u8; 16],
@@ -36,7 +38,7 @@ fn encipher_block(
     sum: u32,
 ) -> Stepped
     requires { ⌜ count + 1 < 2 ^ 64 ⌝ }
-    ensures { λ r. ⌜ (r .block ≡ cipher 10 (now (w .entry)) (plain ⊕ before)) × (r .count ≡ count + 1) × (r .sum ≡ mixedAll sum (bytesOf (encipherStep (now (key .entry)) (cipher 10 (now (w .entry))) (plain ⊕ before)))) ⌝ }
+    ensures { λ r. ⌜ (r .block ≡ cipher 10 (now (w .entry)) (plain ⊕ before)) × (r .count ≡ count + 1) × (r .sum ≡ mixedAll (mixedAll (mixedPrepared (mixed sum encipherment) key) (plain ⊕ before)) (cipher 10 (now (w .entry)) (plain ⊕ before))) ⌝ }
 {
     let input = rounds::xor_block(plain, before);
     let output = aes::encipher(w, input);
@@ -44,13 +46,13 @@ fn encipher_block(
     Stepped {
         block: output,
         count: made,
-        sum: work::mix_step(sum, ENCIPHERMENT, key, &input, &output),
+        sum: work::mix_cipher(sum, ENCIPHERMENT, key, input, output),
     }
 }
 
 // One block decrypted after the block before it.
 fn decipher_block(
-    key: &[u8],
+    key: Prepared,
     w: &[[u8; 16]; 11],
     before: [u8; 16],
     cipher: [u8; 16],
@@ -58,7 +60,7 @@ fn decipher_block(
     sum: u32,
 ) -> Stepped
     requires { ⌜ count + 1 < 2 ^ 64 ⌝ }
-    ensures { λ r. ⌜ (r .block ≡ invCipher 10 (now (w .entry)) cipher ⊕ before) × (r .count ≡ count + 1) × (r .sum ≡ mixedAll sum (bytesOf (decipherStep (now (key .entry)) (invCipher 10 (now (w .entry))) cipher))) ⌝ }
+    ensures { λ r. ⌜ (r .block ≡ invCipher 10 (now (w .entry)) cipher ⊕ before) × (r .count ≡ count + 1) × (r .sum ≡ mixedAll (mixedAll (mixedPrepared (mixed sum decipherment) key) cipher) (invCipher 10 (now (w .entry)) cipher)) ⌝ }
 {
     let output = aes::decipher(w, cipher);
     let plain = rounds::xor_block(output, before);
@@ -66,7 +68,7 @@ fn decipher_block(
     Stepped {
         block: plain,
         count: made,
-        sum: work::mix_step(sum, DECIPHERMENT, key, &cipher, &output),
+        sum: work::mix_cipher(sum, DECIPHERMENT, key, cipher, output),
     }
 }
 
@@ -75,13 +77,14 @@ pub fn encipher(key: &[u8], w: &[[u8; 16]; 11], start: [u8; 16], text: &mut [u8]
     ensures { λ r. ⌜ (r ≡ made encipherment sum (enciphered (now (key .entry)) (cipher 10 (now (w .entry))) start (length (now (text .entry)) / 16) (now (text .entry)))) × (now (text .exit) ≡ encryptedWhole (cipher 10 (now (w .entry))) start (now (text .entry))) ⌝ }
 {
     let blocks = text.len() / 16;
+    let shown = work::prepare(key);
     let mut chained = start;
     let mut count: usize = 0;
     let mut after = sum;
     while count < blocks {
         let at = 16 * count;
         let plain = octets::block_at(text, at);
-        let step = encipher_block(key, w, chained, plain, count, after);
+        let step = encipher_block(shown, w, chained, plain, count, after);
         let cipher = step.block;
         octets::copy_at(text, at, &cipher);
         chained = cipher;
@@ -99,13 +102,14 @@ pub fn decipher(key: &[u8], w: &[[u8; 16]; 11], start: [u8; 16], text: &mut [u8]
     ensures { λ r. ⌜ (r ≡ made decipherment sum (deciphered (now (key .entry)) (invCipher 10 (now (w .entry))) (length (now (text .entry)) / 16) (now (text .entry)))) × (now (text .exit) ≡ decryptedWhole (invCipher 10 (now (w .entry))) start (now (text .entry))) ⌝ }
 {
     let blocks = text.len() / 16;
+    let shown = work::prepare(key);
     let mut previous = start;
     let mut count: usize = 0;
     let mut after = sum;
     while count < blocks {
         let at = 16 * count;
         let cipher = octets::block_at(text, at);
-        let step = decipher_block(key, w, previous, cipher, count, after);
+        let step = decipher_block(shown, w, previous, cipher, count, after);
         let plain = step.block;
         octets::copy_at(text, at, &plain);
         previous = cipher;

@@ -90,7 +90,7 @@ fn diversify(fa: [u8; 16], div: [u8; 16], sum: u32) -> Diversified
         key: out,
         encipherments: 1,
         expansions: e.count,
-        sum: work::mix_step(e.sum, ENCIPHERMENT, &fa, &div, &out),
+        sum: work::mix_cipher(e.sum, ENCIPHERMENT, work::prepare(&fa), div, out),
     }
 }
 

@@ -1,11 +1,13 @@
 -- The work sum of a list by weights: each byte times a power of 257. Assumes nothing.
-use mathlib.Core.Path.{_≡_, sym, ap, _∙_}
+use mathlib.Core.Path.{_≡_, refl, sym, ap, _∙_}
 use mathlib.Core.List.{List, [], _∷_}
 use Prim.Native.Nat.{ℕ, zero, suc, _+_, _*_, _/_, _%_, _^_, _<_}
 use native.Mathlib.Nat.{pow-suc, mul-assoc, mul-comm, mul-left-comm, mul-add, add-zero}
 use native.Mathlib.Omega.{arith}
 use lib.ListN.{length}
-use Rattle.work.specs.Steps.{mixed, mixedAll}
+use Rattle.work.specs.declared.Prepared.{Prepared}
+use Rattle.work.specs.Steps.{Step, bytesOf, mixed, mixedAll}
+use Rattle.work.specs.Laws.{mixed-step}
 
 -- of a byte that n bytes stand behind
 abbrev pub weight : ℕ → ℕ
@@ -28,7 +30,8 @@ reduced w x d =
     ap (λ (y : ℕ). w * y) e ∙ mul-add w (x / 2 ^ 32 * 2 ^ 32) (x % 2 ^ 32) ∙ ap (λ (y : ℕ). y + w * (x % 2 ^ 32)) (sym (mul-assoc w (x / 2 ^ 32) (2 ^ 32))) in
     omega (arith, f)
 
-up : (n : ℕ) → weight (suc n) ≡ 257 * weight n % 2 ^ 32
+-- one byte more
+pub up : (n : ℕ) → weight (suc n) ≡ 257 * weight n % 2 ^ 32
 up n =
     ap (λ (x : ℕ). x % 2 ^ 32) (pow-suc 257 n ∙ mul-comm (257 ^ n) 257 ∙ sym (add-zero (257 * 257 ^ n)))
     ∙ sym (reduced 257 (257 ^ n) 0)
@@ -49,6 +52,7 @@ next n s b d =
     ∙ sym (reduced s (257 * w) e)
     ∙ ap (λ (y : ℕ). (y + e) % 2 ^ 32) (ap (λ (y : ℕ). s * y) (sym (up n)) ∙ mul-comm s (weight (suc n)))
 
+-- from any sum
 pub mixed-weighed : (s : ℕ) (l : List ℕ) → s < 2 ^ 32 → mixedAll s l ≡ (weight (length l) * s + (weighed l + ones (length l))) % 2 ^ 32
 unfolding mixed
 mixed-weighed s [] h = omega arith
@@ -56,3 +60,24 @@ mixed-weighed s (b ∷ bs) h =
     mixed-weighed (mixed s b) bs (omega arith)
     ∙ next (length bs) s b (weighed bs + ones (length bs))
     ∙ omega arith
+
+-- what a list does to any sum, as two numbers
+abbrev pub preparedOf : List ℕ → Prepared
+preparedOf l = record { weight = weight (length l); rest = mixedAll 0 l }
+
+abbrev pub mixedPrepared : ℕ → Prepared → ℕ
+mixedPrepared s r = (r .weight * s + r .rest) % 2 ^ 32
+
+pub prepared-mixed : (s : ℕ) (l : List ℕ) → s < 2 ^ 32 → mixedPrepared s (preparedOf l) ≡ mixedAll s l
+prepared-mixed s l h =
+    let d : ℕ = weighed l + ones (length l) in
+    let z : mixedAll 0 l ≡ d % 2 ^ 32 = mixed-weighed 0 l (omega arith) ∙ omega arith in
+    ap (λ (x : ℕ). (weight (length l) * s + x) % 2 ^ 32) z ∙ last (weight (length l) * s) d ∙ sym (mixed-weighed s l h)
+  where
+    last : (a d : ℕ) → (a + d % 2 ^ 32) % 2 ^ 32 ≡ (a + d) % 2 ^ 32
+    last a d = omega arith
+
+-- a cipher's step with its key prepared
+pub prepared-step : (s : ℕ) (t : Step) {r : Prepared} → r ≡ preparedOf (t .key) → mixedAll (mixedAll (mixedPrepared (mixed s (t .kind)) r) (t .input)) (t .output) ≡ mixedAll s (bytesOf t)
+unfolding mixed
+prepared-step s t e = mixed-step s t refl (ap (mixedPrepared (mixed s (t .kind))) e ∙ prepared-mixed (mixed s (t .kind)) (t .key) (omega arith)) refl refl

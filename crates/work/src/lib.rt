@@ -4,6 +4,7 @@ ghost use mathlib.Core.List.{flatten};
 ghost use Prim.Native.Nat.{_/_, _%_};
 ghost use lib.ListN.{drop};
 ghost use Rattle.work.specs.Steps.{bytesOf, mixed, mixedAll};
+ghost use Rattle.work.specs.Weights.{weight, preparedOf, mixedPrepared};
 
 // One byte into the sum. The product fits 64 bits, and is then taken modulo 2^32.
 pub fn mix(s: u32, b: u8) -> u32
@@ -87,6 +88,50 @@ pub fn mix_step(s: u32, kind: u8, key: &[u8], input: &[u8], output: &[u8]) -> u3
     let after_key = mix_all(after_kind, key);
     let after_input = mix_all(after_key, input);
     mix_all(after_input, output)
+}
+
+// What mixing a list does to any sum: weight times the sum, and rest. For a key, which every step of a run shows.
+pub struct Prepared {
+    pub weight: u32,
+    pub rest: u32,
+}
+
+// 257^n modulo 2^32.
+fn weight_of(n: usize) -> u32
+    ensures { λ r. ⌜ r ≡ weight n ⌝ }
+{
+    let mut w: u32 = 1;
+    let mut i: usize = 0;
+    while i < n {
+        w = ((257 * (w as u64)) % 0x1_0000_0000) as u32;
+        i += 1;
+    }
+    w
+}
+
+pub fn prepare(bytes: &[u8]) -> Prepared
+    ensures { λ r. ⌜ r ≡ preparedOf (now (bytes .entry)) ⌝ }
+{
+    Prepared {
+        weight: weight_of(bytes.len()),
+        rest: mix_all(0, bytes),
+    }
+}
+
+fn mix_prepared(s: u32, l: Prepared) -> u32
+    ensures { λ r. ⌜ r ≡ mixedPrepared s l ⌝ }
+{
+    (((l.weight as u64) * (s as u64) + (l.rest as u64)) % 0x1_0000_0000) as u32
+}
+
+// One step of a cipher, with its key prepared.
+pub fn mix_cipher(s: u32, kind: u8, key: Prepared, input: [u8; 16], output: [u8; 16]) -> u32
+    ensures { λ r. ⌜ r ≡ mixedAll (mixedAll (mixedPrepared (mixed s kind) key) input) output ⌝ }
+{
+    let after_kind = mix(s, kind);
+    let after_key = mix_prepared(after_kind, key);
+    let after_input = mix_block(after_key, input);
+    mix_block(after_input, output)
 }
 
 // Round keys, an expansion's output: the rows one behind the other.

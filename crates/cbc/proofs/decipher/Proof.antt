@@ -8,8 +8,9 @@ use borrow.Author.Needs.{needs}
 use lib.ListN.{length, take, drop}
 use Rattle.rounds.specs.InvCipher.{invCipher}
 use Rattle.work.specs.Steps.{sumFrom}
+use Rattle.work.specs.Weights.{prepared-step}
 use Rattle.cbc.specs.Cbc.{_⊕_}
-use Rattle.cbc.specs.Steps.{deciphered}
+use Rattle.cbc.specs.Steps.{decipherStep, deciphered}
 use Rattle.cbc.specs.Chain.{whole}
 use Rattle.cbc.specs.Laws.{unlink, taken, decrypted-whole}
 use Rattle.cbc.proofs.Turns.{text-turn, deciphered-turn, text-done, deciphered-done}
@@ -17,14 +18,17 @@ use Rattle.cbc.proofs.decipher.Statement.{statement}
 use Rattle.cbc.proofs.decipher.Tie as tie
 
 abbrev Inv-loop : tie.InvT-loop
-Inv-loop key w text₀ sum blocks previous₀ count₀ after₀ text previous count after =
+Inv-loop key w text₀ sum blocks shown previous₀ count₀ after₀ text previous count after =
     (length text ≡ length text₀)
     × (count ≤ blocks)
     × (take (16 * count) text ++ whole (unlink (invCipher 10 w)) taken previous (drop (16 * count) text) ≡ whole (unlink (invCipher 10 w)) taken previous₀ text₀)
     × (sumFrom after (deciphered key (invCipher 10 w) (blocks - count) (drop (16 * count) text)) ≡ sumFrom sum (deciphered key (invCipher 10 w) blocks text₀))
 
 abbrev μ-loop : tie.MeasureT-loop
-μ-loop key w text₀ sum blocks previous₀ count₀ after₀ text previous count after = blocks - count
+μ-loop key w text₀ sum blocks shown previous₀ count₀ after₀ text previous count after = blocks - count
+
+prepare-requires : tie.Need-prepare-requires Inv-loop μ-loop
+prepare-requires c κs = search needs
 
 loop-holds : tie.Need-loop-holds Inv-loop μ-loop
 loop-holds c = (refl, search needs, refl, simp sub-zero)
@@ -55,7 +59,9 @@ loop-again c =
     let b = c .before .before .before .before .before .before in
     let l = b .before .before .before .before in
     let q = l .loop .inv in
-    let f = invCipher 10 (l .before .before .before .args .w .now) in
+    let a = l .before .before .before .before .args in
+    let f = invCipher 10 (a .w .now) in
+    let summed = prepared-step (l .loop .after) (decipherStep (a .key .now) f (b .before .block-at .result)) (l .before .prepare .ensures) in
     let step = b .decipher-block in
     let x = b .before .block-at .ensures in
     let y = step .ensures .0 ∙ ap (λ z. f z ⊕ l .loop .previous) x in
@@ -69,7 +75,7 @@ loop-again c =
       omega arith,
       omega arith,
       text-turn text _ now at _ fits long further put (unlink f) taken _ _ _ y x (q .2),
-      deciphered-turn text _ now at _ fits long further put _ f _ _ _ _ _ _ (b .before .before .before .loop-test .taken) (step .ensures .1) _ x (step .ensures .2) (q .3),
+      deciphered-turn text _ now at _ fits long further put _ f _ _ _ _ _ _ (b .before .before .before .loop-test .taken) (step .ensures .1) _ x (step .ensures .2 ∙ summed) (q .3),
     )
 
 same-length : tie.Need-same-length Inv-loop μ-loop
@@ -78,7 +84,7 @@ same-length c = c .before .loop .inv .0
 returns : tie.Need-returns Inv-loop μ-loop
 returns c =
     let l = c .before .loop in
-    let a = c .before .before .before .before .args in
+    let a = c .before .before .before .before .before .args in
     let f = invCipher 10 (a .w .now) in (
       deciphered-done _ f _ _ (length (a .text .now) / 16) (l .count) _ _ (omega arith) (l .inv .3),
       text-done (unlink f) taken (l .previous) (l .text) _ (16 * l .count) (omega arith) (l .inv .2) ∙ sym (decrypted-whole f (a .start) (a .text .now)),
@@ -90,6 +96,7 @@ decipher-spec =
     (tie.spec
     Inv-loop
     μ-loop
+    prepare-requires
     loop-holds
     mul-at
     block-at-requires

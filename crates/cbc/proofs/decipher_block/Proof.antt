@@ -15,21 +15,15 @@ xor-block-requires c κs = search needs
 add-made : tie.Need-add-made
 add-made c = search needs
 
-slice-aggregate-mix-step : tie.Need-slice-aggregate-mix-step
-slice-aggregate-mix-step c = search needs
-
-slice-aggregate-mix-step-2 : tie.Need-slice-aggregate-mix-step-2
-slice-aggregate-mix-step-2 c = search needs
-
-mix-step-requires : tie.Need-mix-step-requires
-mix-step-requires c κs = search needs
+mix-cipher-requires : tie.Need-mix-cipher-requires
+mix-cipher-requires c κs = search needs
 
 returns : tie.Need-returns
 unfolding _⊕_
 returns c =
-    let b = c .before .before .before in
+    let b = c .before in
     let y = b .before .decipher .ensures in
-    (b .xor-block .ensures ∙ ap (λ x. xorBlock x (b .before .before .before .args .before)) y, refl, simp (c .mix-step .ensures, y))
+    (b .xor-block .ensures ∙ ap (λ x. xorBlock x (b .before .before .args .before)) y, refl, simp (c .mix-cipher .ensures, y))
 
 pub decipher-block-spec : {M : Type 1} → statement M
 decipher-block-spec =
@@ -38,7 +32,5 @@ decipher-block-spec =
     decipher-requires
     xor-block-requires
     add-made
-    slice-aggregate-mix-step
-    slice-aggregate-mix-step-2
-    mix-step-requires
+    mix-cipher-requires
     returns)

@@ -8,8 +8,9 @@ use borrow.Author.Needs.{needs}
 use lib.ListN.{length, take, drop}
 use Rattle.rounds.specs.Cipher.{cipher}
 use Rattle.work.specs.Steps.{sumFrom}
+use Rattle.work.specs.Weights.{prepared-step}
 use Rattle.cbc.specs.Cbc.{_⊕_}
-use Rattle.cbc.specs.Steps.{enciphered}
+use Rattle.cbc.specs.Steps.{encipherStep, enciphered}
 use Rattle.cbc.specs.Chain.{whole}
 use Rattle.cbc.specs.Laws.{link, encrypted-whole}
 use Rattle.cbc.proofs.Turns.{text-turn, enciphered-turn, text-done, enciphered-done}
@@ -17,14 +18,17 @@ use Rattle.cbc.proofs.encipher.Statement.{statement}
 use Rattle.cbc.proofs.encipher.Tie as tie
 
 abbrev Inv-loop : tie.InvT-loop
-Inv-loop key w text₀ sum blocks chained₀ count₀ after₀ text chained count after =
+Inv-loop key w text₀ sum blocks shown chained₀ count₀ after₀ text chained count after =
     (length text ≡ length text₀)
     × (count ≤ blocks)
     × (take (16 * count) text ++ whole (link (cipher 10 w)) (link (cipher 10 w)) chained (drop (16 * count) text) ≡ whole (link (cipher 10 w)) (link (cipher 10 w)) chained₀ text₀)
     × (sumFrom after (enciphered key (cipher 10 w) chained (blocks - count) (drop (16 * count) text)) ≡ sumFrom sum (enciphered key (cipher 10 w) chained₀ blocks text₀))
 
 abbrev μ-loop : tie.MeasureT-loop
-μ-loop key w text₀ sum blocks chained₀ count₀ after₀ text chained count after = blocks - count
+μ-loop key w text₀ sum blocks shown chained₀ count₀ after₀ text chained count after = blocks - count
+
+prepare-requires : tie.Need-prepare-requires Inv-loop μ-loop
+prepare-requires c κs = search needs
 
 loop-holds : tie.Need-loop-holds Inv-loop μ-loop
 loop-holds c = (refl, search needs, refl, simp sub-zero)
@@ -55,7 +59,9 @@ loop-again c =
     let b = c .before .before .before .before .before .before in
     let l = b .before .before .before .before in
     let q = l .loop .inv in
-    let f = cipher 10 (l .before .before .before .args .w .now) in
+    let a = l .before .before .before .before .args in
+    let f = cipher 10 (a .w .now) in
+    let summed = prepared-step (l .loop .after) (encipherStep (a .key .now) f (b .before .block-at .result ⊕ l .loop .chained)) (l .before .prepare .ensures) in
     let step = b .encipher-block in
     let x = ap (λ p. p ⊕ l .loop .chained) (b .before .block-at .ensures) in
     let y = step .ensures .0 ∙ ap f x in
@@ -69,7 +75,7 @@ loop-again c =
       omega arith,
       omega arith,
       text-turn text _ now at _ fits long further put (link f) (link f) _ _ _ y y (q .2),
-      enciphered-turn text _ now at _ fits long further put _ f _ _ _ _ _ _ (b .before .before .before .loop-test .taken) (step .ensures .1) _ _ _ x (step .ensures .0) (step .ensures .2) (q .3),
+      enciphered-turn text _ now at _ fits long further put _ f _ _ _ _ _ _ (b .before .before .before .loop-test .taken) (step .ensures .1) _ _ _ x (step .ensures .0) (step .ensures .2 ∙ summed) (q .3),
     )
 
 same-length : tie.Need-same-length Inv-loop μ-loop
@@ -78,7 +84,7 @@ same-length c = c .before .loop .inv .0
 returns : tie.Need-returns Inv-loop μ-loop
 returns c =
     let l = c .before .loop in
-    let a = c .before .before .before .before .args in
+    let a = c .before .before .before .before .before .args in
     let f = cipher 10 (a .w .now) in (
       enciphered-done _ f _ _ (length (a .text .now) / 16) (l .count) _ _ (omega arith) _ _ (l .inv .3),
       text-done (link f) (link f) (l .chained) (l .text) _ (16 * l .count) (omega arith) (l .inv .2) ∙ sym (encrypted-whole f (a .start) (a .text .now)),
@@ -90,6 +96,7 @@ encipher-spec =
     (tie.spec
     Inv-loop
     μ-loop
+    prepare-requires
     loop-holds
     mul-at
     block-at-requires

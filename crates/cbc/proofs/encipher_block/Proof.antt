@@ -15,22 +15,17 @@ encipher-requires c κs = search needs
 add-made : tie.Need-add-made
 add-made c = search needs
 
-slice-aggregate-mix-step : tie.Need-slice-aggregate-mix-step
-slice-aggregate-mix-step c = search needs
-
-slice-aggregate-mix-step-2 : tie.Need-slice-aggregate-mix-step-2
-slice-aggregate-mix-step-2 c = search needs
-
-mix-step-requires : tie.Need-mix-step-requires
-mix-step-requires c κs = search needs
+mix-cipher-requires : tie.Need-mix-cipher-requires
+mix-cipher-requires c κs = search needs
 
 returns : tie.Need-returns
 unfolding _⊕_
 returns c =
-    let b = c .before .before .before in
-    let w = b .before .before .before .args .w .now in
-    let y = b .encipher .ensures ∙ ap (cipher 10 w) (b .before .xor-block .ensures) in
-    (y, refl, simp (c .mix-step .ensures, y, b .before .xor-block .ensures))
+    let b = c .before in
+    let w = b .before .before .args .w .now in
+    let x = b .before .xor-block .ensures in
+    let y = b .encipher .ensures ∙ ap (cipher 10 w) x in
+    (y, refl, simp (c .mix-cipher .ensures, y, x))
 
 pub encipher-block-spec : {M : Type 1} → statement M
 encipher-block-spec =
@@ -39,7 +34,5 @@ encipher-block-spec =
     xor-block-requires
     encipher-requires
     add-made
-    slice-aggregate-mix-step
-    slice-aggregate-mix-step-2
-    mix-step-requires
+    mix-cipher-requires
     returns)
