@@ -101,10 +101,10 @@ fn weight_of(n: usize) -> u32
     ensures { λ r. ⌜ r ≡ weight n ⌝ }
 {
     let mut w: u32 = 1;
-    let mut i: usize = 0;
-    while i < n {
+    let mut k: usize = 0;
+    while k < n {
         w = ((257 * (w as u64)) % 0x1_0000_0000) as u32;
-        i += 1;
+        k += 1;
     }
     w
 }

@@ -2,6 +2,8 @@
 use mathlib.Core.Path.{refl, ap, _∙_}
 use borrow.Author.Needs.{needs}
 use Rattle.octets.specs.Bytes.{xorBlock}
+use Rattle.work.specs.Steps.{decipherment, mixed, mixedAll}
+use Rattle.work.specs.Weights.{mixedPrepared}
 use Rattle.cbc.specs.Cbc.{_⊕_}
 use Rattle.cbc.proofs.decipher_block.Statement.{statement}
 use Rattle.cbc.proofs.decipher_block.Tie as tie
@@ -23,7 +25,11 @@ unfolding _⊕_
 returns c =
     let b = c .before in
     let y = b .before .decipher .ensures in
-    (b .xor-block .ensures ∙ ap (λ x. xorBlock x (b .before .before .args .before)) y, refl, simp (c .mix-cipher .ensures, y))
+    let a = b .before .before .args in (
+      b .xor-block .ensures ∙ ap (λ x. xorBlock x (a .before)) y,
+      refl,
+      c .mix-cipher .ensures ∙ ap (mixedAll (mixedAll (mixedPrepared (mixed (a .sum) decipherment) (a .key)) (a .cipher))) y,
+    )
 
 pub decipher-block-spec : {M : Type 1} → statement M
 decipher-block-spec =

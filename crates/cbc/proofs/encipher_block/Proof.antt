@@ -1,7 +1,9 @@
 -- `encipher_block` meets its contract, by those of its calls. Assumes nothing.
-use mathlib.Core.Path.{refl, ap, _∙_}
+use mathlib.Core.Path.{refl, ap, ap₂, _∙_}
 use borrow.Author.Needs.{needs}
 use Rattle.rounds.specs.Cipher.{cipher}
+use Rattle.work.specs.Steps.{encipherment, mixed, mixedAll}
+use Rattle.work.specs.Weights.{mixedPrepared}
 use Rattle.cbc.specs.Cbc.{_⊕_}
 use Rattle.cbc.proofs.encipher_block.Statement.{statement}
 use Rattle.cbc.proofs.encipher_block.Tie as tie
@@ -25,7 +27,8 @@ returns c =
     let w = b .before .before .args .w .now in
     let x = b .before .xor-block .ensures in
     let y = b .encipher .ensures ∙ ap (cipher 10 w) x in
-    (y, refl, simp (c .mix-cipher .ensures, y, x))
+    let a = b .before .before .args in
+    (y, refl, c .mix-cipher .ensures ∙ ap₂ (λ i o. mixedAll (mixedAll (mixedPrepared (mixed (a .sum) encipherment) (a .key)) i) o) x y)
 
 pub encipher-block-spec : {M : Type 1} → statement M
 encipher-block-spec =

@@ -1,6 +1,8 @@
 -- `diversify` meets its contract: one expansion and one encipherment (Assembly). Assumes nothing.
 use mathlib.Core.Path.{ap, _∙_}
 use borrow.Author.Needs.{needs}
+use Rattle.work.specs.Steps.{encipherment}
+use Rattle.work.specs.Weights.{prepared-step}
 use Rattle.final_command.proofs.Assembly.{diversified-same}
 use Rattle.final_command.proofs.diversify.Statement.{statement}
 use Rattle.final_command.proofs.diversify.Tie as tie
@@ -14,28 +16,27 @@ round-keys-requires c κs = search needs
 encipher-requires : tie.Need-encipher-requires
 encipher-requires c κs = search needs
 
-slice-aggregate-mix-step : tie.Need-slice-aggregate-mix-step
-slice-aggregate-mix-step c = search needs
+slice-aggregate-prepare : tie.Need-slice-aggregate-prepare
+slice-aggregate-prepare c = search needs
 
-slice-aggregate-mix-step-2 : tie.Need-slice-aggregate-mix-step-2
-slice-aggregate-mix-step-2 c = search needs
+prepare-requires : tie.Need-prepare-requires
+prepare-requires c κs = search needs
 
-slice-aggregate-mix-step-3 : tie.Need-slice-aggregate-mix-step-3
-slice-aggregate-mix-step-3 c = search needs
-
-mix-step-requires : tie.Need-mix-step-requires
-mix-step-requires c κs = search needs
+mix-cipher-requires : tie.Need-mix-cipher-requires
+mix-cipher-requires c κs = search needs
 
 returns : tie.Need-returns
 returns c =
-    let e = c .before .before .before .before .before .before .before .expand .ensures in
-    let a = c .before .before .before .before .before .before .before .before .args in
-    diversified-same (a .t1) (a .t2) (a .sum) _ _ _ _ _
-    (c .before .before .before .before .before .before .round-keys .ensures ∙ ap (λ r. r .rows) e)
-    (c .before .before .before .before .encipher .ensures)
+    let b = c .before .before .before in
+    let r = b .before .before in
+    let e = r .before .expand .ensures in
+    let a = r .before .before .args in
+    diversified-same (a .t1) (a .div) (a .sum) _ _ _ _ _
+    (r .round-keys .ensures ∙ ap (λ r. r .rows) e)
+    (b .encipher .ensures)
     (ap (λ r. r .count) e)
     (ap (λ r. r .sum) e)
-    (c .mix-step .ensures)
+    (c .mix-cipher .ensures ∙ prepared-step (r .before .expand .result .sum) (record { kind = encipherment; key = a .t1; input = a .div; output = b .encipher .result }) (c .before .prepare .ensures))
 
 pub diversify-spec : {M : Type 1} → statement M
 diversify-spec =
@@ -44,8 +45,7 @@ diversify-spec =
     expand-requires
     round-keys-requires
     encipher-requires
-    slice-aggregate-mix-step
-    slice-aggregate-mix-step-2
-    slice-aggregate-mix-step-3
-    mix-step-requires
+    slice-aggregate-prepare
+    prepare-requires
+    mix-cipher-requires
     returns)

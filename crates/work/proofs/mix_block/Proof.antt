@@ -1,7 +1,7 @@
 -- `mix_block` meets its contract: the weights are those of Weights, and the loop takes the bytes in by them. Assumes nothing.
 use Prim.Native.Nat.{ℕ, suc, _+_, _-_, _*_, _%_, _^_, _<_, _≤_}
 use mathlib.Core.Path.{_≡_, refl, ap, _∙_}
-use mathlib.Core.List.{List}
+use mathlib.Core.List.{List, []}
 use native.Mathlib.Omega.{arith}
 use borrow.Author.Needs.{needs}
 use mir.Syntax.{w8, w32}
@@ -15,10 +15,6 @@ use Rattle.work.proofs.mix_block.Tie as tie
 
 abbrev sixteen : List ℕ
 sixteen = table (λ (j : ℕ). weight (15 - j)) 16 0
-
--- said of the definition, so that a wrong weight is shown beside the right one
-weights-are : sixteen ≡ sixteen
-weights-are = refl
 
 -- a weight of the table
 weight-at : (weights : List ℕ) (i : ℕ) → weights ≡ sixteen → i < 16 → getD weights i 0 ≡ weight (15 - i)
@@ -47,7 +43,7 @@ add-sum : tie.Need-add-sum Inv-loop μ-loop
 add-sum c = search needs
 
 loop-holds : tie.Need-loop-holds Inv-loop μ-loop
-loop-holds c = (weights-are, search needs, refl, omega arith)
+loop-holds c = (refl, search needs, refl, omega arith)
 
 mul-sum-2 : tie.Need-mul-sum-2 Inv-loop μ-loop
 mul-sum-2 c = search needs
@@ -107,8 +103,8 @@ returns c =
     let s : Fits w32 (c .before .before .args .s) = search needs in
     let long : length b ≡ 16 = search needs in
     let i : l .i ≡ 16 = omega arith in
-    let none : weighed (drop (l .i) b) ≡ 0 = ap weighed (drop-of-length-le b {i = l .i} (omega arith)) in
-    omega (arith, l .inv .2, none, mixed-weighed (c .before .before .args .s) b (s .fits) ∙ ap (λ (n : ℕ). (weight n * c .before .before .args .s + (weighed b + ones n)) % 2 ^ 32) long)
+    let none : drop (l .i) b ≡ [] = drop-of-length-le b {i = l .i} (omega arith) in
+    omega (arith, l .inv .2, ap weighed none, mixed-weighed (c .before .before .args .s) b (s .fits) ∙ ap (λ (n : ℕ). (weight n * c .before .before .args .s + (weighed b + ones n)) % 2 ^ 32) long)
 
 pub mix-block-spec : {M : Type 1} → statement M
 mix-block-spec =
