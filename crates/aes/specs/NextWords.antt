@@ -27,13 +27,9 @@ four-lt hp hq hr hs (suc zero) = hq
 four-lt hp hq hr hs (suc (suc zero)) = hr
 four-lt hp hq hr hs (suc (suc (suc i))) = hs
 
-module _ (s : Columns) (h : Words s) (g : ℕ → ℕ) (hg : (i : ℕ) → g i < 256) where
-  abbrev at : ℕ → ℕ → ℕ
-  at r c = grownAt (stateOf s) (g r) r c
-
-  grown-lt : (r c : ℕ) → at r c < 256
-  grown-lt r zero = xor-byte (at-lt s r 0) (hg r)
-  grown-lt r (suc c) = xor-byte (at-lt s r (suc c)) (grown-lt r c)
+grown-lt : (s : Columns) (g : ℕ → ℕ) → ((i : ℕ) → g i < 256) → (r c : ℕ) → grownAt (stateOf s) (g r) r c < 256
+grown-lt s g hg r zero = xor-byte (at-lt s r 0) (hg r)
+grown-lt s g hg r (suc c) = xor-byte (at-lt s r (suc c)) (grown-lt s g hg r c)
 
 -- column by column, each with the new one before it
 pub next-words : (s : Columns) (x : ℕ) {l : List ℕ} {t : Columns} {u : ℕ} → Words s → x < 256 → l ≡ sboxTable →
@@ -42,7 +38,7 @@ pub next-words : (s : Columns) (x : ℕ) {l : List ℕ} {t : Columns} {u : ℕ} 
     stateOf t ≡ nextKey (stateOf s) x
 unfolding nextKey
 next-words s x {l} {t} {u} h hx q e e₀ e₁ e₂ e₃ =
-    means (at s h g hg) (λ r c _ _. grown-lt s h g hg r c) w₀ w₁ w₂ w₃
+    means at (λ r c _ _. grown-lt s g hg r c) w₀ w₁ w₂ w₃
   where
     at-table : (i : ℕ) → getD l (byteAt (s .c3) i) 0 ≡ sbox (byteAt (s .c3) i)
     at-table i = ap (λ (y : List ℕ). getD y (byteAt (s .c3) i) 0) q ∙ table-at sbox (byteAt (s .c3) i) (byte-lt (s .c3) i)
@@ -56,17 +52,20 @@ next-words s x {l} {t} {u} h hx q e e₀ e₁ e₂ e₃ =
     hg : (i : ℕ) → g i < 256
     hg = four-lt (xor-byte (looked 1) hx) (looked 2) (looked 3) (looked 0)
 
+    at : ℕ → ℕ → ℕ
+    at r c = grownAt (stateOf s) (g r) r c
+
     first : u ≡ wordOf g
     first = e ∙ words (ap (λ (y : ℕ). bitXor y x) (at-table 1)) (at-table 2) (at-table 3) (at-table 0)
 
-    w₀ : t .c0 ≡ wordOf (λ r. at s h g hg r 0)
+    w₀ : t .c0 ≡ wordOf (λ r. at r 0)
     w₀ = e₀ ∙ xored (s .c0) g (h .w0) hg first
 
-    w₁ : t .c1 ≡ wordOf (λ r. at s h g hg r 1)
-    w₁ = e₁ ∙ xored (s .c1) (λ r. at s h g hg r 0) (h .w1) (λ r. grown-lt s h g hg r 0) w₀
+    w₁ : t .c1 ≡ wordOf (λ r. at r 1)
+    w₁ = e₁ ∙ xored (s .c1) (λ r. at r 0) (h .w1) (λ r. grown-lt s g hg r 0) w₀
 
-    w₂ : t .c2 ≡ wordOf (λ r. at s h g hg r 2)
-    w₂ = e₂ ∙ xored (s .c2) (λ r. at s h g hg r 1) (h .w2) (λ r. grown-lt s h g hg r 1) w₁
+    w₂ : t .c2 ≡ wordOf (λ r. at r 2)
+    w₂ = e₂ ∙ xored (s .c2) (λ r. at r 1) (h .w2) (λ r. grown-lt s g hg r 1) w₁
 
-    w₃ : t .c3 ≡ wordOf (λ r. at s h g hg r 3)
-    w₃ = e₃ ∙ xored (s .c3) (λ r. at s h g hg r 2) (h .w3) (λ r. grown-lt s h g hg r 2) w₂
+    w₃ : t .c3 ≡ wordOf (λ r. at r 3)
+    w₃ = e₃ ∙ xored (s .c3) (λ r. at r 2) (h .w3) (λ r. grown-lt s g hg r 2) w₂

@@ -12,7 +12,7 @@ use Rattle.rounds.specs.InvCipher.{invCipher}
 use Rattle.aes.specs.KeyExpansion.{roundKeys}
 use Rattle.aes.specs.Aes.{aes, invAes}
 use Rattle.aes.specs.RoundTrip.{length-aes}
-use Rattle.sha256.specs.Hash.{sha256}
+use Rattle.sha_block.specs.Hash.{sha256}
 use Rattle.work.specs.Steps.{Step, comparison, decipherment, encipherment, expansion, hashBlock, bytesOf, mixedAll, sumFrom, counted, workSum}
 use Rattle.work.specs.Laws.{sumFrom-append, counted-append}
 use Rattle.cbc.specs.Cbc.{encrypted, decrypted, encryptedWhole, decryptedWhole, zeros}

@@ -7,7 +7,7 @@ use lib.ListN.{length, getD, replicate}
 use Rattle.octets.specs.Lists.{part, over}
 use Rattle.octets.specs.Bytes.{same}
 use Rattle.aes.specs.Aes.{aes, invAes}
-use Rattle.sha256.specs.Hash.{sha256}
+use Rattle.sha_block.specs.Hash.{sha256}
 use Rattle.padding.specs.Method2.{padded, end, rightly}
 use Rattle.work.specs.Steps.{Step}
 use Rattle.cbc.specs.Cbc.{encrypted, decrypted, zeros}

@@ -15,7 +15,7 @@ ghost use Rattle.octets.specs.Bytes.{same};
 ghost use Rattle.octets.specs.Lists.{part, over};
 ghost use Rattle.rounds.specs.InvCipher.{invCipher};
 ghost use Rattle.aes.specs.Aes.{aes};
-ghost use Rattle.sha256.specs.Hash.{sha256};
+ghost use Rattle.sha_block.specs.Hash.{sha256};
 ghost use Rattle.padding.specs.Method2.{rightly, end};
 ghost use Rattle.work.specs.Steps.{comparison, decipherment, encipherment, expansion, hashBlock, counted, sumFrom};
 ghost use Rattle.cbc.specs.Cbc.{encrypted, decrypted, zeros};

@@ -7,7 +7,7 @@ use lib.ListN.{length, length-append}
 use Rattle.octets.specs.Lists.{length-part}
 use Rattle.aes.specs.Aes.{aes}
 use Rattle.aes.specs.RoundTrip.{length-aes}
-use Rattle.sha256.specs.Hash.{sha256, digestBytes}
+use Rattle.sha_block.specs.Hash.{sha256, digestBytes}
 use Rattle.padding.specs.Method2.{padded}
 use Rattle.cbc.specs.Lengths.{length-encrypted}
 use Rattle.cbc.specs.Cbc.{zeros}

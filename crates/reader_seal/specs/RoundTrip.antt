@@ -12,7 +12,7 @@ use Rattle.octets.specs.ByteLists.{cons-bytes, append-bytes, zeros-bytes, take-
 use Rattle.aes.specs.Aes.{invAes}
 use Rattle.aes.specs.RoundTrip.{aes-block}
 use Rattle.sha_words.specs.Words.{wordBytes}
-use Rattle.sha256.specs.Hash.{sha256, digestBytes, stateAfter}
+use Rattle.sha_block.specs.Hash.{sha256, digestBytes, stateAfter}
 use Rattle.sha_padding.specs.Parsing.{blocks}
 use Rattle.padding.specs.Method2.{blocksFor, zeroBytes, padded, unpadded}
 use Rattle.padding.specs.Laws.{length-padded, unpadded-padded, padded-bytes}

@@ -6,7 +6,7 @@ use lib.Dec.{eqb, ltb}
 use lib.ListN.{length}
 use Rattle.octets.specs.Lists.{part, over}
 use Rattle.aes.specs.Aes.{aes}
-use Rattle.sha256.specs.Hash.{sha256}
+use Rattle.sha_block.specs.Hash.{sha256}
 use Rattle.padding.specs.Method2.{blocksFor, padded}
 use Rattle.cbc.specs.Cbc.{encrypted, zeros}
 use Rattle.plaid_types.specs.declared.OpModeId.{OpModeId}

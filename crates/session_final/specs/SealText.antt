@@ -9,7 +9,7 @@ use lib.ListN.{length, getD, replicate}
 use Rattle.octets.specs.Bytes.{Bytes, Block}
 use Rattle.octets.specs.Lists.{part, over}
 use Rattle.aes.specs.Aes.{aes, invAes}
-use Rattle.sha256.specs.Hash.{sha256}
+use Rattle.sha_block.specs.Hash.{sha256}
 use Rattle.padding.specs.Method2.{blocksFor, padded}
 use Rattle.padding.specs.Laws.{length-padded}
 use Rattle.cbc.specs.Cbc.{decrypted, zeros}

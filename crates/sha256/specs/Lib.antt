@@ -1,4 +1,1 @@
-pub mod Constants
-pub mod Initial
-pub mod Hash
 pub mod Vectors

@@ -2,11 +2,11 @@
 use mathlib.Core.Path.{_≡_, refl}
 use mathlib.Core.List.{[], _∷_}
 use Rattle.sha_words.specs.Functions.{ch, maj, upperSigma0, upperSigma1, sigma0, sigma1}
-use Rattle.sha256.specs.Constants.{constants}
+use Rattle.sha_block.specs.Constants.{constants}
 use Rattle.sha_padding.specs.Padding.{pad}
 use Rattle.sha_padding.specs.Parsing.{blockAt, blockWords}
-use Rattle.sha256.specs.Initial.{initialHash}
-use Rattle.sha256.specs.Hash.{schedule, turn, turns, compressed, stateAfter, digestBytes, sha256}
+use Rattle.sha_block.specs.Initial.{initialHash}
+use Rattle.sha_block.specs.Hash.{schedule, turn, turns, compressed, stateAfter, digestBytes, sha256}
 
 pub abc : sha256 (0x61 ∷ 0x62 ∷ 0x63 ∷ [])
     ≡ 0xba ∷ 0x78 ∷ 0x16 ∷ 0xbf ∷ 0x8f ∷ 0x01 ∷ 0xcf ∷ 0xea ∷ 0x41 ∷ 0x41 ∷ 0x40 ∷ 0xde ∷ 0x5d ∷ 0xae ∷ 0x22 ∷ 0x23 ∷

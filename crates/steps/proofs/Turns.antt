@@ -4,7 +4,7 @@ use mathlib.Core.List.{List, []}
 use Prim.Native.Nat.{ℕ, suc, _+_, _-_, _<_}
 use Rattle.octets.specs.Lists.{table}
 use Rattle.sha_padding.specs.Parsing.{blockAt}
-use Rattle.sha256.specs.Hash.{compressed, stateAfter, digestBytes}
+use Rattle.sha_block.specs.Hash.{compressed, stateAfter, digestBytes}
 use Rattle.work.specs.Steps.{Step, hashBlock, bytesOf, mixedAll, sumFrom}
 use Rattle.steps.specs.Made.{hashStep}
 use Rattle.steps.specs.Laws.{table-next}

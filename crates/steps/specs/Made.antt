@@ -6,7 +6,7 @@ use lib.Dec.{eqb}
 use Rattle.octets.specs.Lists.{table}
 use Rattle.aes.specs.KeyExpansion.{roundKeys}
 use Rattle.sha_padding.specs.Parsing.{blocks, blockAt}
-use Rattle.sha256.specs.Hash.{stateAfter, digestBytes}
+use Rattle.sha_block.specs.Hash.{stateAfter, digestBytes}
 use Rattle.work.specs.Steps.{Step, comparison, expansion, hashBlock}
 use Rattle.plaid_types.specs.declared.KeySetId.{KeySetId}
 use Rattle.plaid_types.specs.declared.OpModeId.{OpModeId}

@@ -5,7 +5,7 @@ ghost use mathlib.Core.Path.{_≡_};
 ghost use mathlib.Core.List.{[], _∷_};
 ghost use Rattle.work.specs.Steps.{comparison, expansion, hashBlock, mixedAll, sumFrom, counted};
 ghost use Rattle.aes.specs.KeyExpansion.{roundKeys};
-ghost use Rattle.sha256.specs.Hash.{sha256};
+ghost use Rattle.sha_block.specs.Hash.{sha256};
 ghost use Rattle.steps.specs.Made.{
   expansionStep,
   hashSteps,
@@ -71,7 +71,7 @@ pub fn hash(m: &[u8], sum: u32) -> Hashing
     let mut i: usize = 0;
     while i < n {
         let b = sha_padding::padded_block(m, i);
-        let x = sha256::compress(h, &b);
+        let x = sha_block::compress(h, &b);
         let o = sha256::to_bytes(x);
         s = work::mix_step(s, 5, &[], &b, &o);
         h = x;

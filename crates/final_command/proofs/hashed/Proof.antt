@@ -6,7 +6,7 @@ use native.Mathlib.Omega.{arith}
 use borrow.Author.Needs.{needs}
 use lib.ListN.{length, replicate}
 use Rattle.octets.specs.Lists.{part, over, length-part}
-use Rattle.sha256.specs.Hash.{sha256}
+use Rattle.sha_block.specs.Hash.{sha256}
 use Rattle.work.specs.Steps.{hashBlock, sumFrom, counted}
 use Rattle.steps.specs.Made.{hashSteps}
 use Rattle.final_command.proofs.Buffers.{over-both}

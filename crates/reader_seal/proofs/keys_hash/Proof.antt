@@ -4,7 +4,7 @@ use mathlib.Core.Path.{ap, _∙_}
 use mathlib.Core.List.{List}
 use Prim.Native.Nat.{ℕ}
 use Rattle.octets.specs.Lists.{part}
-use Rattle.sha256.specs.Hash.{sha256}
+use Rattle.sha_block.specs.Hash.{sha256}
 use Rattle.reader_seal.specs.Seal.{keysHashOf}
 use Rattle.reader_seal.proofs.Writes.{both-written}
 use Rattle.reader_seal.proofs.keys_hash.Statement.{statement}

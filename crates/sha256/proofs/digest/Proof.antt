@@ -1,7 +1,7 @@
 -- `sha256::digest` meets its contract: the bytes of the last hash value. Assumes nothing.
 use mathlib.Core.Path.{ap, _∙_}
 use Rattle.sha256.specs.declared.Hashed.{Hashed}
-use Rattle.sha256.specs.Hash.{digestBytes, sha256}
+use Rattle.sha_block.specs.Hash.{digestBytes, sha256}
 use borrow.Author.Needs.{needs}
 use Rattle.sha256.proofs.digest.Statement.{statement}
 use Rattle.sha256.proofs.digest.Tie as tie

@@ -6,7 +6,7 @@ use native.Mathlib.Omega.{arith}
 use native.Mathlib.Numerals.{add-one}
 use Rattle.sha256.specs.declared.Hashed.{Hashed}
 use Rattle.sha_padding.specs.Parsing.{blocks, blockAt}
-use Rattle.sha256.specs.Hash.{compressed, stateAfter}
+use Rattle.sha_block.specs.Hash.{compressed, stateAfter}
 use borrow.Author.Needs.{needs}
 use Rattle.sha256.proofs.hash.Statement.{statement}
 use Rattle.sha256.proofs.hash.Tie as tie

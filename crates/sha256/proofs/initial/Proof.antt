@@ -1,6 +1,6 @@
 -- `sha256::initial` meets its contract: the code is the definition, opened. Assumes nothing.
 use mathlib.Core.Path.{refl}
-use Rattle.sha256.specs.Initial.{initialHash}
+use Rattle.sha_block.specs.Initial.{initialHash}
 use Rattle.sha256.proofs.initial.Statement.{statement}
 use Rattle.sha256.proofs.initial.Tie as tie
 

@@ -7,7 +7,7 @@ use native.Mathlib.Omega.{arith}
 use lib.ListN.{length, getD}
 use Rattle.octets.specs.Filled.{Filled, filled-none, filled-more, filled-all}
 use Rattle.sha_words.specs.Words.{wordBytes}
-use Rattle.sha256.specs.Hash.{digestBytes}
+use Rattle.sha_block.specs.Hash.{digestBytes}
 use borrow.Author.Needs.{needs}
 use Rattle.sha256.proofs.to_bytes.Statement.{statement}
 use Rattle.sha256.proofs.to_bytes.Tie as tie

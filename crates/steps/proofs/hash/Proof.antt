@@ -6,7 +6,7 @@ use native.Mathlib.Omega.{arith}
 use native.Mathlib.Numerals.{add-one}
 use Rattle.octets.specs.Lists.{table}
 use Rattle.sha_padding.specs.Parsing.{blocks}
-use Rattle.sha256.specs.Hash.{stateAfter, digestBytes, sha256}
+use Rattle.sha_block.specs.Hash.{stateAfter, digestBytes, sha256}
 use Rattle.work.specs.Steps.{hashBlock, sumFrom}
 use Rattle.steps.specs.declared.Hashing.{Hashing}
 use Rattle.steps.specs.Made.{hashStep, hashSteps}

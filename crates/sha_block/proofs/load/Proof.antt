@@ -1,4 +1,4 @@
--- `sha256::load` meets its contract. The loop's invariant: the first i places hold the block's words. Assumes nothing.
+-- `sha_block::load` meets its contract. The loop's invariant: the first i places hold the block's words. Assumes nothing.
 use mathlib.Core.Path.{_≡_, refl, _∙_}
 use Prim.Native.Nat.{_-_, _≤_}
 use native.Mathlib.Omega.{arith}
@@ -8,8 +8,8 @@ use Rattle.octets.specs.Lists.{tabled}
 use Rattle.octets.specs.Filled.{Filled, filled-none, filled-more}
 use Rattle.sha_padding.specs.Parsing.{blockWord, blockWords}
 use borrow.Author.Needs.{needs}
-use Rattle.sha256.proofs.load.Statement.{statement}
-use Rattle.sha256.proofs.load.Tie as tie
+use Rattle.sha_block.proofs.load.Statement.{statement}
+use Rattle.sha_block.proofs.load.Tie as tie
 
 abbrev Inv-loop : tie.InvT-loop
 Inv-loop b w₀ i₀ w i = (length w₀ ≡ 64) × (i ≤ 16) × Filled (blockWord b) w₀ w i

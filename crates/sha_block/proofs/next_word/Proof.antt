@@ -1,9 +1,9 @@
--- `sha256::next_word` meets its contract: each call's result goes into the next sum. Assumes nothing.
+-- `sha_block::next_word` meets its contract: each call's result goes into the next sum. Assumes nothing.
 use mathlib.Core.Path.{refl}
-use Rattle.sha256.proofs.Sums.{summed}
+use Rattle.sha_block.proofs.Sums.{summed}
 use borrow.Author.Needs.{needs}
-use Rattle.sha256.proofs.next_word.Statement.{statement}
-use Rattle.sha256.proofs.next_word.Tie as tie
+use Rattle.sha_block.proofs.next_word.Statement.{statement}
+use Rattle.sha_block.proofs.next_word.Tie as tie
 
 add-lower-sigma1 : tie.Need-add-lower-sigma1
 add-lower-sigma1 c = search needs

@@ -1,14 +1,14 @@
--- `sha256::compress` meets its contract: the schedule goes into the turns, and what they give is added word by word. Assumes nothing.
+-- `sha_block::compress` meets its contract: the schedule goes into the turns, and what they give is added word by word. Assumes nothing.
 use mathlib.Core.Path.{_≡_, refl, ap, _∙_}
 use mathlib.Core.List.{List, [], _∷_}
 use Prim.Native.Nat.{ℕ}
 use lib.ListN.{getD}
 use Rattle.octets.specs.Lists.{cons}
 use Rattle.sha_words.specs.Words.{plus}
-use Rattle.sha256.specs.Hash.{turns, sums, compressed}
+use Rattle.sha_block.specs.Hash.{turns, sums, compressed}
 use borrow.Author.Needs.{needs}
-use Rattle.sha256.proofs.compress.Statement.{statement}
-use Rattle.sha256.proofs.compress.Tie as tie
+use Rattle.sha_block.proofs.compress.Statement.{statement}
+use Rattle.sha_block.proofs.compress.Tie as tie
 
 module _ (v h : List ℕ) where
   abbrev at : ℕ → ℕ

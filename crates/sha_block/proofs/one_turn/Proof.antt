@@ -1,13 +1,13 @@
--- `sha256::one_turn` meets its contract: each call's result goes into the next sum. Assumes nothing.
+-- `sha_block::one_turn` meets its contract: each call's result goes into the next sum. Assumes nothing.
 use mathlib.Core.Path.{_≡_, refl, ap₂}
 use mathlib.Core.List.{[], _∷_}
 use Prim.Native.Nat.{ℕ}
 use lib.ListN.{getD}
-use Rattle.sha256.specs.Hash.{t1, t2, turn}
-use Rattle.sha256.proofs.Sums.{summed}
+use Rattle.sha_block.specs.Hash.{t1, t2, turn}
+use Rattle.sha_block.proofs.Sums.{summed}
 use borrow.Author.Needs.{needs}
-use Rattle.sha256.proofs.one_turn.Statement.{statement}
-use Rattle.sha256.proofs.one_turn.Tie as tie
+use Rattle.sha_block.proofs.one_turn.Statement.{statement}
+use Rattle.sha_block.proofs.one_turn.Tie as tie
 
 array-read-a : tie.Need-array-read-a
 array-read-a c = search needs

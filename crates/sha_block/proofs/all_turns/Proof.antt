@@ -1,14 +1,14 @@
--- `sha256::all_turns` meets its contract. The loop's invariant: v is what i turns made of h. Assumes nothing.
+-- `sha_block::all_turns` meets its contract. The loop's invariant: v is what i turns made of h. Assumes nothing.
 use mathlib.Core.Path.{_≡_, refl, sym, ap, ap₂, _∙_}
 use mathlib.Core.List.{List}
 use Prim.Native.Nat.{ℕ, suc, _+_, _-_, _%_, _≤_}
 use native.Mathlib.Omega.{arith}
 use lib.ListN.{getD}
-use Rattle.sha256.specs.Constants.{constants}
-use Rattle.sha256.specs.Hash.{turn, turns}
+use Rattle.sha_block.specs.Constants.{constants}
+use Rattle.sha_block.specs.Hash.{turn, turns}
 use borrow.Author.Needs.{needs}
-use Rattle.sha256.proofs.all_turns.Statement.{statement}
-use Rattle.sha256.proofs.all_turns.Tie as tie
+use Rattle.sha_block.proofs.all_turns.Statement.{statement}
+use Rattle.sha_block.proofs.all_turns.Tie as tie
 
 -- one turn more
 more : (w h : List ℕ) {k v r : List ℕ} (t s : ℕ) → k ≡ constants → s ≡ suc t → v ≡ turns w h t → r ≡ turn v (getD k t 0) (getD w t 0) → r ≡ turns w h s

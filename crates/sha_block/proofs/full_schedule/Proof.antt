@@ -1,4 +1,4 @@
--- `sha256::full_schedule` meets its contract. The loop's invariant: the first n + 16 words are the schedule's. Assumes nothing.
+-- `sha_block::full_schedule` meets its contract. The loop's invariant: the first n + 16 words are the schedule's. Assumes nothing.
 use mathlib.Core.Path.{_≡_, refl, sym, ap, ap₂, _∙_}
 use mathlib.Core.List.{List, [], _∷_, _++_}
 use Prim.Native.Nat.{ℕ, suc, _+_, _-_, _*_, _%_, _<_, _≤_}
@@ -12,11 +12,11 @@ use mir.Syntax.{w64}
 use mir.Val.{Fits}
 use Rattle.sha_words.specs.Functions.{sigma0, sigma1}
 use Rattle.sha_padding.specs.Parsing.{blockWords}
-use Rattle.sha256.specs.Hash.{nextWord, schedule}
-use Rattle.sha256.proofs.Sums.{summed}
+use Rattle.sha_block.specs.Hash.{nextWord, schedule}
+use Rattle.sha_block.proofs.Sums.{summed}
 use borrow.Author.Needs.{needs}
-use Rattle.sha256.proofs.full_schedule.Statement.{statement}
-use Rattle.sha256.proofs.full_schedule.Tie as tie
+use Rattle.sha_block.proofs.full_schedule.Statement.{statement}
+use Rattle.sha_block.proofs.full_schedule.Tie as tie
 
 -- the first n + 16 of the 64 words
 record Grown (m w : List ℕ) (n : ℕ) : Type 0 where

@@ -5,9 +5,9 @@ use lib.ListN.{getD}
 use Rattle.octets.specs.Lists.{table}
 use Rattle.sha_words.specs.Words.{plus, wordBytes}
 use Rattle.sha_words.specs.Functions.{ch, maj, upperSigma0, upperSigma1, sigma0, sigma1}
-use Rattle.sha256.specs.Constants.{constants}
+use Rattle.sha_block.specs.Constants.{constants}
 use Rattle.sha_padding.specs.Parsing.{blocks, blockAt, blockWords}
-use Rattle.sha256.specs.Initial.{initialHash}
+use Rattle.sha_block.specs.Initial.{initialHash}
 
 -- Step 1: "Prepare the message schedule, {Wt}: Mt(i) for 0 ≤ t ≤ 15; σ1(Wt-2) + Wt-7 + σ0(Wt-15) + Wt-16 for 16 ≤ t ≤ 63". The word
 -- at t = n + 16, from those before it

@@ -1,0 +1,3 @@
+pub mod Constants
+pub mod Initial
+pub mod Hash
