@@ -161,11 +161,11 @@ typedef char plaid_size_is_64_bits[sizeof(size_t) == 8 ? 1 : -1];
  * of calls. It is the greater of the two, in whole sixteens.
  */
 #define PLAID_STACK_LOAD 5232
-#define PLAID_STACK_COMMAND 8832
+#define PLAID_STACK_COMMAND 9248
 #define PLAID_STACK_LIST 144
 #define PLAID_STACK_OPEN 160
-#define PLAID_STACK_SEAL 1200
-#define PLAID_STACK_ACCEPT 880
+#define PLAID_STACK_SEAL 1424
+#define PLAID_STACK_ACCEPT 1232
 #define PLAID_STACK_RECORD 16
 
 /*

@@ -1,9 +1,9 @@
-//! AES-128, both ways, from FIPS 197, and CBC over any block cipher.
+//! AES with keys of 16, 24 and 32 bytes, both ways, from FIPS 197, and CBC over any block cipher.
 
 pub type Block = [u8; 16];
 
-/// The eleven round keys, a row of sixteen bytes each.
-pub type RoundKeys = [Block; 11];
+/// The round keys, a row of sixteen bytes each: 11, 13 or 15 of them.
+pub type RoundKeys = Vec<Block>;
 
 /// The product in the field of 256 elements, modulo x^8 + x^4 + x^3 + x + 1 (FIPS 197, 4.2).
 const fn product(a: u8, b: u8) -> u8 {
@@ -64,22 +64,24 @@ const INVERSE_S_BOX: [u8; 256] = reversed(S_BOX);
 const MIX: [[u8; 256]; 4] = [multiples(2), multiples(3), multiples(1), multiples(1)];
 const INVERSE_MIX: [[u8; 256]; 4] = [multiples(14), multiples(11), multiples(13), multiples(9)];
 
-pub fn expand(key: &Block) -> RoundKeys {
-    let mut keys = [*key; 11];
-    let mut round_constant = 1;
-    for round in 1..11 {
-        let last = keys[round - 1];
-        let turned = [last[13], last[14], last[15], last[12]].map(|b| S_BOX[usize::from(b)]);
-        let mut word = [turned[0] ^ round_constant, turned[1], turned[2], turned[3]];
-        for column in 0..4 {
-            for row in 0..4 {
-                word[row] ^= last[4 * column + row];
-                keys[round][4 * column + row] = word[row];
-            }
+pub fn expand(key: &[u8]) -> RoundKeys {
+    let mut words: Vec<[u8; 4]> = key.as_chunks().0.to_vec();
+    let (nk, mut round_constant) = (words.len(), 1);
+    for i in nk..4 * (nk + 7) {
+        let mut word = words[i - 1];
+        if i % nk == 0 {
+            word.rotate_left(1);
         }
-        round_constant = product(round_constant, 2);
+        if i % nk == 0 || (nk > 6 && i % nk == 4) {
+            word = word.map(|b| S_BOX[usize::from(b)]);
+        }
+        if i % nk == 0 {
+            word[0] ^= round_constant;
+            round_constant = product(round_constant, 2);
+        }
+        words.push(std::array::from_fn(|row| words[i - nk][row] ^ word[row]));
     }
-    keys
+    words.as_flattened().as_chunks().0.to_vec()
 }
 
 fn add(state: &mut Block, key: &Block) {
@@ -103,22 +105,22 @@ fn mix(state: &Block, tables: &[[u8; 256]; 4]) -> Block {
     })
 }
 
-pub fn encipher(keys: &RoundKeys, input: &Block) -> Block {
-    let mut state = *input;
+pub fn encipher(keys: &[Block], input: &Block) -> Block {
+    let (mut state, last) = (*input, keys.len() - 1);
     add(&mut state, &keys[0]);
-    for key in &keys[1..10] {
+    for key in &keys[1..last] {
         state = mix(&substitute_and_shift(&state, &S_BOX, 1), &MIX);
         add(&mut state, key);
     }
     state = substitute_and_shift(&state, &S_BOX, 1);
-    add(&mut state, &keys[10]);
+    add(&mut state, &keys[last]);
     state
 }
 
-pub fn decipher(keys: &RoundKeys, input: &Block) -> Block {
-    let mut state = *input;
-    add(&mut state, &keys[10]);
-    for key in keys[1..10].iter().rev() {
+pub fn decipher(keys: &[Block], input: &Block) -> Block {
+    let (mut state, last) = (*input, keys.len() - 1);
+    add(&mut state, &keys[last]);
+    for key in keys[1..last].iter().rev() {
         // Turning left by three is turning right by one.
         state = substitute_and_shift(&state, &INVERSE_S_BOX, 3);
         add(&mut state, key);

@@ -48,7 +48,7 @@ fn vectors(path: &str) -> Vec<Vector> {
 
 /// Known answers, one block or many: without IV each block stands alone.
 fn aes_vector(vector: &Vector) -> Option<bool> {
-    let keys = aes::expand(&vector.block("KEY")?);
+    let keys = aes::expand(&vector.bytes("KEY")?);
     let (plain, cipher) = (vector.bytes("PLAINTEXT")?, vector.bytes("CIPHERTEXT")?);
     let enciphering = vector.section == "[ENCRYPT]";
     let (input, wanted) = if enciphering { (plain, cipher) } else { (cipher, plain) };
@@ -109,7 +109,7 @@ fn run_file(path: &str) -> Tally {
 
 pub fn run() -> Tally {
     let mut all = Tally::default();
-    for (name, directory, least) in [("AES", AES_FILES, 10), ("SHA-256", SHA256_FILES, 3)] {
+    for (name, directory, least) in [("AES", AES_FILES, 30), ("SHA-256", SHA256_FILES, 3)] {
         let paths = files(directory);
         let mut tally = Tally::default();
         paths.iter().for_each(|path| tally.add(run_file(path)));

@@ -6,9 +6,9 @@ use lib.ListN.{length}
 use Rattle.octets.specs.Bytes.{Bytes, Block}
 use Rattle.rounds.specs.Cipher.{cipher, lastRound}
 use Rattle.rounds.specs.Undo.{invCipher-cipher, cipher-invCipher, cipher-block, invCipher-block}
-use Rattle.aes.specs.KeyExpansion.{roundKeys}
+use Rattle.key_expansion.specs.KeyExpansion.{roundKeys}
 use Rattle.aes.specs.Aes.{aes, invAes}
-use Rattle.aes.specs.Words.{roundKeys-bytes}
+use Rattle.key_expansion.specs.Words.{roundKeys-bytes}
 
 pub length-aes : (nk : ℕ) (key s : List ℕ) → length (aes nk key s) ≡ 16
 unfolding cipher lastRound

@@ -1,5 +1,6 @@
-// Runs NIST's response files for AES-128, ECB and CBC, in both directions, and then the worked examples of FIPS 197.
-// A file that cannot be read, and a record that cannot, each gives a line of its own, as a block that differs does.
+// Runs NIST's response files for AES with keys of 128, 192 and 256 bits, ECB and CBC, in both directions, and then the worked examples of
+// FIPS 197. A file that cannot be read, and a record that cannot, each gives a line of its own, as a block that differs does. A record
+// whose key has not the length that the file's name says is one that cannot be read.
 //
 // CBC takes its start block as an argument: a vector's IV is run by passing it there.
 mod fips197;
@@ -8,6 +9,11 @@ mod tally;
 use tally::Ran;
 use tally::Tally;
 use tally::compare;
+ghost use mathlib.Core.Path.{_≡_};
+ghost use mathlib.Core.Bool.{true};
+ghost use Prim.Native.Nat.{_<_, _≤_};
+ghost use lib.ListN.{length};
+ghost use Rattle.key_expansion.specs.KeyLength.{keyLength};
 
 // How a file's records are run: each block by itself (ECB) or chained (CBC), and in which direction.
 struct Mode {
@@ -36,32 +42,9 @@ fn section_at(s: &[u8], i: usize, last: u8) -> u8 {
     last
 }
 
-// The first 16 bytes of `s`.
-fn block_of(s: &[u8]) -> [u8; 16] {
-    let mut b = [0u8; 16];
-    let mut i = 0;
-    while i < 16 {
-        if i < s.len() {
-            b[i] = s[i];
-        }
-        i += 1;
-    }
-    b
-}
-
-// Puts a block at the start of `d`, if it fits.
-fn put(d: &mut [u8], b: [u8; 16]) {
-    if d.len() < 16 {
-        return;
-    }
-    let mut i = 0;
-    while i < 16 {
-        d[i] = b[i];
-        i += 1;
-    }
-}
-
-fn one_block(w: &[[u8; 16]; 11], b: [u8; 16], is_inverse: bool) -> [u8; 16] {
+fn one_block(w: &[[u8; 16]], b: [u8; 16], is_inverse: bool) -> [u8; 16]
+    requires { ⌜ 1 < length (now w) ⌝ }
+{
     if is_inverse {
         aes::decipher(w, b)
     } else {
@@ -69,89 +52,98 @@ fn one_block(w: &[[u8; 16]; 11], b: [u8; 16], is_inverse: bool) -> [u8; 16] {
     }
 }
 
-// ECB: each block by itself.
-fn each_block(w: &[[u8; 16]; 11], text: &mut [u8], is_inverse: bool) {
-    let mut at = 0;
-    while at < text.len() {
-        let b = one_block(w, block_of(&text[at..]), is_inverse);
-        put(&mut text[at..], b);
-        if text.len() - at < 16 {
-            return;
-        }
-        at += 16;
+// ECB: each whole block by itself.
+fn each_block(w: &[[u8; 16]], text: &mut [u8], is_inverse: bool)
+    requires { ⌜ 1 < length (now w) ⌝ }
+{
+    let blocks = text.len() / 16;
+    let mut i = 0;
+    while i < blocks {
+        let at = 16 * i;
+        let b = one_block(w, octets::block_at(text, at), is_inverse);
+        octets::copy_at(text, at, &b);
+        i += 1;
     }
 }
 
-fn apply(mode: Mode, key: [u8; 16], start: [u8; 16], text: &mut [u8]) {
-    let w = aes::expand(key);
+fn apply(mode: Mode, key: &[u8], start: [u8; 16], text: &mut [u8])
+    requires { ⌜ keyLength (length (now key)) ≡ true ⌝ }
+{
+    let rows = key_expansion::expand(key);
+    let n = key.len() / 4 + 7;
+    let w = &rows[..n];
     if !mode.is_chained {
-        each_block(&w, text, mode.is_inverse);
+        each_block(w, text, mode.is_inverse);
         return;
     }
     if mode.is_inverse {
-        cbc::decipher(&key, &w, start, text, 0);
+        cbc::decipher(key, w, start, text, 0);
     } else {
-        cbc::encipher(&key, &w, start, text, 0);
+        cbc::encipher(key, w, start, text, 0);
     }
 }
 
-// Runs the first n bytes of `text`, and compares them with those of `wanted`.
+// Runs the first n bytes of `text` under the first k of `key`, and compares them with those of `wanted`.
 fn run_text(
     mode: Mode,
-    key: [u8; 16],
+    key: [u8; 32],
+    k: usize,
     start: [u8; 16],
     text: &mut [u8],
     wanted: &[u8],
     n: usize,
 ) -> Ran {
+    if !key_expansion::is_key_length(k) {
+        return Ran::Unread;
+    }
     if text.len() < n {
         return Ran::Unread;
     }
     if wanted.len() < n {
         return Ran::Unread;
     }
-    apply(mode, key, start, &mut text[0..n]);
+    apply(mode, &key[..k], start, &mut text[0..n]);
     compare(&text[0..n], &wanted[0..n])
 }
 
-// Runs the record at place i, whose texts are whole blocks, at most ten.
-fn record(s: &[u8], i: usize, is_chained: bool, section: u8) -> Ran {
-    let mut key = [0u8; 16];
+// What a file's name says of its records: whether they are chained (CBC), and how many bytes their keys have.
+struct Kind {
+    is_chained: bool,
+    key_length: usize,
+}
+
+// Puts the bytes of a field of the record at place i at the start of `out`, and answers how many they are.
+fn bytes_of(s: &[u8], i: usize, name: &[u8], out: &mut [u8]) -> usize {
+    rsp::hex(s, rsp::field(s, i, name), out)
+}
+
+// Whether a record can be run whose key has k bytes, its IV v, and its texts n and m: they are whole blocks.
+fn has_lengths(kind: Kind, k: usize, v: usize, n: usize, m: usize) -> bool {
+    k == kind.key_length && n == m && n % 16 == 0 && kind.is_chained == (v == 16)
+}
+
+// Runs the record at place i, whose texts have at most ten blocks.
+fn record(s: &[u8], i: usize, kind: Kind, section: u8) -> Ran {
+    let mut key = [0u8; 32];
     let mut start = [0u8; 16];
     let mut plain = [0u8; 160];
     let mut cipher = [0u8; 160];
-    let k = rsp::hex(s, rsp::field(s, i, b"KEY = "), &mut key);
-    let v = rsp::hex(s, rsp::field(s, i, b"IV = "), &mut start);
-    let n = rsp::hex(s, rsp::field(s, i, b"PLAINTEXT = "), &mut plain);
-    let m = rsp::hex(s, rsp::field(s, i, b"CIPHERTEXT = "), &mut cipher);
-    if k != 16 || n != m || n % 16 != 0 || is_chained != (v == 16) {
+    let k = bytes_of(s, i, b"KEY = ", &mut key);
+    let v = bytes_of(s, i, b"IV = ", &mut start);
+    let n = bytes_of(s, i, b"PLAINTEXT = ", &mut plain);
+    let m = bytes_of(s, i, b"CIPHERTEXT = ", &mut cipher);
+    if !has_lengths(kind, k, v, n, m) {
         return Ran::Unread;
     }
+    let mode = Mode {
+        is_chained: kind.is_chained,
+        is_inverse: section == DECRYPT,
+    };
     if section == ENCRYPT {
-        return run_text(
-            Mode {
-                is_chained: is_chained,
-                is_inverse: false,
-            },
-            key,
-            start,
-            &mut plain,
-            &cipher,
-            n,
-        );
+        return run_text(mode, key, k, start, &mut plain, &cipher, n);
     }
     if section == DECRYPT {
-        return run_text(
-            Mode {
-                is_chained: is_chained,
-                is_inverse: true,
-            },
-            key,
-            start,
-            &mut cipher,
-            &plain,
-            n,
-        );
+        return run_text(mode, key, k, start, &mut cipher, &plain, n);
     }
     Ran::Unread
 }
@@ -173,14 +165,14 @@ fn complain(name: &[u8], s: &[u8], i: usize, section: u8, ran: Ran) {
     ran.say();
 }
 
-fn records(name: &[u8], s: &[u8], is_chained: bool) -> Tally {
+fn records(name: &[u8], s: &[u8], kind: Kind) -> Tally {
     let mut tally = Tally::none();
     let mut section = NO_SECTION;
     let mut i = 0;
     while i < s.len() {
         section = section_at(s, i, section);
         if rsp::starts(s, i, b"COUNT = ") {
-            let ran = record(s, i, is_chained, section);
+            let ran = record(s, i, kind, section);
             complain(name, s, i, section, ran);
             tally = tally.with(section == DECRYPT, ran);
         }
@@ -190,43 +182,70 @@ fn records(name: &[u8], s: &[u8], is_chained: bool) -> Tally {
 }
 
 // Runs the records of the first n bytes of `buf`.
-fn run_part(name: &[u8], buf: &[u8], n: usize, is_chained: bool) -> Tally {
+fn run_part(name: &[u8], buf: &[u8], n: usize, kind: Kind) -> Tally {
     if buf.len() < n {
         rsp::say(name);
         rsp::say(b": cannot be read\n");
         return Tally::none().with(false, Ran::Unread);
     }
-    records(name, &buf[0..n], is_chained)
+    records(name, &buf[0..n], kind)
 }
 
-// Runs a file of at most 65,535 bytes.
-fn run(name: &[u8], is_chained: bool) -> Tally {
-    let mut buf = io::large_buffer();
+// Runs a file of at most 131,071 bytes.
+fn run(name: &[u8], kind: Kind) -> Tally {
+    let mut buf = [0u8; 131072];
     let n = rsp::load(name, &mut buf);
-    let tally = run_part(name, &buf, n, is_chained);
+    let tally = run_part(name, &buf, n, kind);
     tally.say(name);
     tally
 }
 
-fn ecb() -> Tally {
-    let a = run(b"ECBGFSbox128.rsp", false);
-    let b = run(b"ECBKeySbox128.rsp", false);
-    let c = run(b"ECBVarKey128.rsp", false);
-    let d = run(b"ECBVarTxt128.rsp", false);
-    let e = run(b"ECBMMT128.rsp", false);
+// Puts `part` at place i of `name`, if it fits, and answers where it ends.
+fn join(name: &mut [u8], i: usize, part: &[u8]) -> usize
+    requires { ⌜ i ≤ length (now name) ⌝ }
+    ensures { λ r. ⌜ r ≤ length (now (name .entry)) ⌝ }
+{
+    if name.len() - i < part.len() {
+        return i;
+    }
+    octets::copy_at(name, i, part);
+    i + part.len()
+}
+
+// Runs the file that is named by its mode, its test and its keys' bits.
+fn run_named(mode: &[u8], test: &[u8], bits: &[u8]) -> Tally {
+    let mut name = [0u8; 32];
+    let a = join(&mut name, 0, mode);
+    let b = join(&mut name, a, test);
+    let c = join(&mut name, b, bits);
+    let e = join(&mut name, c, b".rsp");
+    run(
+        &name[..e],
+        Kind {
+            is_chained: check::same(mode, b"CBC"),
+            key_length: rsp::decimal(bits, 0) / 8,
+        },
+    )
+}
+
+// The five files of a mode and a key length.
+fn files(mode: &[u8], bits: &[u8]) -> Tally {
+    let a = run_named(mode, b"GFSbox", bits);
+    let b = run_named(mode, b"KeySbox", bits);
+    let c = run_named(mode, b"VarKey", bits);
+    let d = run_named(mode, b"VarTxt", bits);
+    let e = run_named(mode, b"MMT", bits);
     a.and(b).and(c).and(d).and(e)
 }
 
-fn cbc() -> Tally {
-    let a = run(b"CBCGFSbox128.rsp", true);
-    let b = run(b"CBCKeySbox128.rsp", true);
-    let c = run(b"CBCVarKey128.rsp", true);
-    let d = run(b"CBCVarTxt128.rsp", true);
-    let e = run(b"CBCMMT128.rsp", true);
-    a.and(b).and(c).and(d).and(e)
+fn lengths(mode: &[u8]) -> Tally {
+    let a = files(mode, b"128");
+    let b = files(mode, b"192");
+    let c = files(mode, b"256");
+    a.and(b).and(c)
 }
 
 fn main() {
-    let files = ecb().and(cbc());
-    files.and(fips197::examples()).say(b"total");
+    let all = lengths(b"ECB").and(lengths(b"CBC"));
+    all.and(fips197::examples()).say(b"total");
 }

@@ -16,7 +16,7 @@ use Rattle.frame.specs.declared.Verdict.{Verdict}
 use Rattle.initial.specs.Initial.{initialSteps, slotOf, acceptsInitial, refusedInitial, initialReply, blockOf}
 use Rattle.initial.specs.Laws.{initial-counted, initial-length, initial-rnd1}
 use Rattle.octets.specs.Lists.{part, over}
-use Rattle.aes.specs.Aes.{aes}
+use Rattle.aes.specs.Aes.{aesUnder}
 use Rattle.cbc.specs.Cbc.{encrypted, zeros}
 use Rattle.final_command.specs.Final.{sizeOf, acceptsFinal, replyKey, replyText, replyBuffer, finalBytes, finalReply}
 use Rattle.final_command.specs.Laws.{final-length, final-comparisons, final-decipherments, final-encipherments, final-expansions, final-hash-blocks, size-loaded, rnd1-length}
@@ -218,7 +218,7 @@ lists-alike {xs} {ys} c e sc se g a =
 
 -- what a refusal answers, of shill keys, reply size and fresh bytes alone
 refusedFinal : List ℕ → ℕ → List ℕ → List ℕ
-refusedFinal key b fresh = encrypted (aes 4 key) zeros b (over (replicate 96 0) 0 (part fresh 0 (16 * b)))
+refusedFinal key b fresh = encrypted (aesUnder key) zeros b (over (replicate 96 0) 0 (part fresh 0 (16 * b)))
 
 final-refused : (c : Card) (d fresh : List ℕ) → acceptsFinal c d ≡ false → finalReply c d fresh .bytes ≡ refusedFinal (c .«shill_key») (sizeOf c) fresh
 unfolding finalReply finalBytes replyKey replyBuffer replyText refusedFinal

@@ -6,7 +6,7 @@ use mathlib.Core.List.{List, [], _∷_, _++_, map}
 use Prim.Native.Nat.{ℕ, _+_, _*_, _/_, _%_, _<_, _≤_}
 use lib.ListN.{length, getD, take, drop, replicate}
 use Rattle.octets.specs.Lists.{part}
-use Rattle.aes.specs.Aes.{aes}
+use Rattle.aes.specs.Aes.{aesUnder}
 use Rattle.cbc.specs.Cbc.{zeros, encrypted}
 use Rattle.padding.specs.Method2.{padded, rightly, unpadded}
 use Rattle.padding.specs.declared.Unpadded.the-variants.{Text, Malformed}
@@ -86,7 +86,7 @@ pub record FinalRefused (l : Load) (n : ℕ) (c : Card) (x : Call) : Type 0 wher
   pub handle : outcomeOf c x .answer .handle ≡ 0
   pub card : outcomeOf c x .card ≡ withSession (cardOf l) noSession
   pub refused : accepted c x ≡ false
-  pub reply : bytesOf c x ≡ encrypted (aes 4 (l .given .«shill_key»)) zeros 3 (part (x .fresh) 0 48)
+  pub reply : bytesOf c x ≡ encrypted (aesUnder (l .given .«shill_key»)) zeros 3 (part (x .fresh) 0 48)
 
 -- the same of every final command with lc data bytes, whatever they are
 abbrev pub Final : ℕ → ℕ → Type 0
@@ -120,7 +120,7 @@ pub record Replies (l : Load) (i b n : ℕ) (body : List ℕ) : Type 0 where
       (xs : List Call) (x : Call) → isInitial x ≡ false → accepted (cardAfter (cardOf l) xs) x ≡ true →
       opMode (textOf (cardAfter (cardOf l) xs) (dataOf (x .command))) ≡ getD (l .given .modes) i pastMode .id →
       bytesOf (cardAfter (cardOf l) xs) x ≡
-      encrypted (aes 4 (keysHash (cardAfter (cardOf l) xs) (dataOf (x .command)))) zeros b (padded (body ++ l .given .«div_data»))
+      encrypted (aesUnder (keysHash (cardAfter (cardOf l) xs) (dataOf (x .command)))) zeros b (padded (body ++ l .given .«div_data»))
 
 -- "payload p: Lc lc", of what Seal hands back and writes, for every payload of p bytes and every output with room for the command
 pub record SealedWith (lc : ℕ) (r : Sealed) (out : List ℕ) : Type 0 where

@@ -10,7 +10,7 @@ use lib.ListN.{length, getD, take, drop, replicate, length-append, length-map, l
 use lib.Seq.{getD-drop, getD-take, getD-append-add}
 use Rattle.octets.specs.Lists.{part}
 use Rattle.octets.specs.Writes.{over-front}
-use Rattle.aes.specs.Aes.{aes}
+use Rattle.aes.specs.Aes.{aesUnder}
 use Rattle.cbc.specs.Cbc.{zeros, encrypted}
 use Rattle.padding.specs.Method2.{zeroBytes, padded, rightly, unpadded}
 use Rattle.padding.specs.Laws.{Seen, seen, rightly-seen, seen-none, unpadded-padded, textEnd-le}
@@ -361,7 +361,7 @@ module _ (l : Load) (i n b : ℕ) (r : Records l i n) (s : cardOf l .«reply_siz
         long = h;
         answered =
             λ xs x f a q. named-answer l xs x f a i (r .within) q
-            ∙ ap₂ (λ (k : ℕ) (t : List ℕ). encrypted (aes 4 (keysHash (left l xs) (dataOf (x .command)))) zeros k (padded (t ++ l .given .«div_data»))) s e;
+            ∙ ap₂ (λ (k : ℕ) (t : List ℕ). encrypted (aesUnder (keysHash (left l xs) (dataOf (x .command)))) zeros k (padded (t ++ l .given .«div_data»))) s e;
       }
 
   with-payload : (k : ℕ) → 16 * (b - 2) - n ≡ k → Replies l i b (n + k) (recordGiven l i ++ replicate k 0)
@@ -472,8 +472,8 @@ final-refused l b d h o s fresh room lr t =
       reply =
           call-bytes l 0x86 d f s fresh room lr t
           ∙ refused-reply (withSession (cardOf l) s) d fresh (stocked-session (cardOf l) s (is-a-load l .stocked)) r (t .fresh-long)
-          ∙ ap (λ (n : ℕ). encrypted (aes 4 (cardOf l .«shill_key»)) zeros n (part fresh 0 (16 * n))) b
-          ∙ ap (λ (k : List ℕ). encrypted (aes 4 k) zeros 3 (part fresh 0 48)) (key-given l);
+          ∙ ap (λ (n : ℕ). encrypted (aesUnder (cardOf l .«shill_key»)) zeros n (part fresh 0 (16 * n))) b
+          ∙ ap (λ (k : List ℕ). encrypted (aesUnder k) zeros 3 (part fresh 0 48)) (key-given l);
     }
 
 final-edge : (lc : ℕ) → 0 < lc → (lc % 16 ≡ 0 → ⊥) → Final lc (lc / 16)

@@ -9,7 +9,7 @@ use lib.ListN.{length, getD}
 use borrow.Author.Tests.{eqb-true, not-true}
 use Rattle.octets.specs.Lists.{part}
 use Rattle.octets.specs.Same.{split-and}
-use Rattle.aes.specs.Aes.{aes}
+use Rattle.aes.specs.Aes.{aesUnder}
 use Rattle.padding.specs.Method2.{padded}
 use Rattle.cbc.specs.Cbc.{encrypted, zeros}
 use Rattle.frame.specs.Frame.{frameOf, dataOf}
@@ -41,11 +41,11 @@ pub record AcceptedFinal (l : Load) (xs : List Call) (x : Call) : Type 0 where
   pub fills : length (padded (bodyGiven l at ++ l .given .«div_data»)) ≡ 16 * cardOf l .«reply_size»
   pub answered :
       bytesOf (left l xs) x
-      ≡ encrypted (aes 4 (keysHash (left l xs) (dataOf (x .command)))) zeros (cardOf l .«reply_size») (padded (bodyGiven l at ++ l .given .«div_data»))
+      ≡ encrypted (aesUnder (keysHash (left l xs) (dataOf (x .command)))) zeros (cardOf l .«reply_size») (padded (bodyGiven l at ++ l .given .«div_data»))
 
 -- "Otherwise the first 16B fresh bytes go by CBC under the shill key, unpadded."
 abbrev pub RefusedFinal : Load → List Call → Call → Type 0
-RefusedFinal l xs x = bytesOf (left l xs) x ≡ encrypted (aes 4 (l .given .«shill_key»)) zeros (cardOf l .«reply_size») (part (x .fresh) 0 (16 * cardOf l .«reply_size»))
+RefusedFinal l xs x = bytesOf (left l xs) x ≡ encrypted (aesUnder (l .given .«shill_key»)) zeros (cardOf l .«reply_size») (part (x .fresh) 0 (16 * cardOf l .«reply_size»))
 
 -- a final command that is not declined: accepted or refused, and so answered
 pub record FinalAnswers (l : Load) (xs : List Call) (x : Call) : Type 0 where
@@ -127,14 +127,14 @@ module _ (l : Load) (xs : List Call) (x : Call) (goes : isDeclined x ≡ false) 
           answered =
               bytes-are
               ∙ reply .replied
-              ∙ ap₂ (λ (n : ℕ) (s : List ℕ). encrypted (aes 4 (keysHash (left l xs) d)) zeros n (padded s)) size-is text-is;
+              ∙ ap₂ (λ (n : ℕ) (s : List ℕ). encrypted (aesUnder (keysHash (left l xs) d)) zeros n (padded s)) size-is text-is;
         }
 
   refused-so : acceptsFinal (left l xs) d ≡ false → RefusedFinal l xs x
   refused-so e =
       bytes-are
       ∙ refused-reply (left l xs) d (x .fresh) (kp .stocked) e fresh-long
-      ∙ ap₂ (λ (k : List ℕ) (n : ℕ). encrypted (aes 4 k) zeros n (part (x .fresh) 0 (16 * n))) (ap (λ (c : Card). c .«shill_key») (kp .same) ∙ key-given l) size-is
+      ∙ ap₂ (λ (k : List ℕ) (n : ℕ). encrypted (aesUnder k) zeros n (part (x .fresh) 0 (16 * n))) (ap (λ (c : Card). c .«shill_key») (kp .same) ∙ key-given l) size-is
 
   pub final-answers : FinalAnswers l xs x
   final-answers = record { if-accepted = λ a. answered-so (sym accepts-are ∙ a); if-refused = λ a. refused-so (sym accepts-are ∙ a) }
@@ -149,7 +149,7 @@ one-mode l v i h e =
 pub named-answer : (l : Load) (xs : List Call) (x : Call) → isInitial x ≡ false → accepted (left l xs) x ≡ true →
     (i : ℕ) → i < l .given .«mode_count» → opMode (textOf (left l xs) (dataOf (x .command))) ≡ getD (l .given .modes) i pastMode .id →
     bytesOf (left l xs) x
-    ≡ encrypted (aes 4 (keysHash (left l xs) (dataOf (x .command)))) zeros (cardOf l .«reply_size») (padded (bodyGiven l i ++ l .given .«div_data»))
+    ≡ encrypted (aesUnder (keysHash (left l xs) (dataOf (x .command)))) zeros (cardOf l .«reply_size») (padded (bodyGiven l i ++ l .given .«div_data»))
 unfolding accepted
 named-answer l xs x final e i h q =
     let goes : isDeclined x ≡ false = not-true (isDeclined x) (split-and _ _ e .0) in
@@ -157,4 +157,4 @@ named-answer l xs x final e i h q =
     let v : OpModeId = opMode (textOf (left l xs) (dataOf (x .command))) in
     let same : a .at ≡ i = sym (one-mode l v (a .at) (a .given) (a .named)) ∙ one-mode l v i h (sym q) in
     a .answered
-    ∙ ap (λ (n : ℕ). encrypted (aes 4 (keysHash (left l xs) (dataOf (x .command)))) zeros (cardOf l .«reply_size») (padded (bodyGiven l n ++ l .given .«div_data»))) same
+    ∙ ap (λ (n : ℕ). encrypted (aesUnder (keysHash (left l xs) (dataOf (x .command)))) zeros (cardOf l .«reply_size») (padded (bodyGiven l n ++ l .given .«div_data»))) same

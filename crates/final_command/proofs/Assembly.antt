@@ -7,10 +7,9 @@ use native.Mathlib.Omega.{arith}
 use lib.Dec.{eqb}
 use lib.ListN.{length, getD, take, drop, replicate}
 use Rattle.octets.specs.Lists.{part, over}
-use Rattle.rounds.specs.Cipher.{cipher}
-use Rattle.rounds.specs.InvCipher.{invCipher}
-use Rattle.aes.specs.KeyExpansion.{roundKeys}
-use Rattle.aes.specs.Aes.{aes, invAes}
+use Rattle.key_expansion.specs.Schedule.{fifteen}
+use Rattle.aes.specs.Aes.{aesUnder, invAesUnder, cipherBy}
+use Rattle.aes.specs.Rows.{lent-aes}
 use Rattle.aes.specs.RoundTrip.{length-aes}
 use Rattle.sha_block.specs.Hash.{sha256}
 use Rattle.work.specs.Steps.{Step, comparison, decipherment, encipherment, expansion, hashBlock, bytesOf, mixedAll, sumFrom, counted, workSum}
@@ -41,12 +40,13 @@ use Rattle.final_command.proofs.Counts.{sum-four, text-comparisons, tex
 
 -- the diversified key
 pub diversified-same : (fa div : List ℕ) (sum : ℕ) (rows : List (List ℕ)) (out : List ℕ) (count s₁ s₂ : ℕ) →
-    rows ≡ roundKeys 4 fa → out ≡ cipher 10 rows div → count ≡ 1 → s₁ ≡ sumFrom sum (expansionStep fa ∷ []) →
+    length fa ≡ 16 → rows ≡ fifteen (length fa / 4) fa → out ≡ cipherBy (take 11 rows) div → count ≡ 1 → s₁ ≡ sumFrom sum (expansionStep fa ∷ []) →
     s₂ ≡ mixedAll s₁ (bytesOf (record { kind = encipherment; key = fa; input = div; output = out })) →
     _≡_ {A = Diversified} (record { key = out; encipherments = 1; expansions = count; sum = s₂ })
-    (record { key = aes 4 fa div; encipherments = counted encipherment (divSteps fa div); expansions = counted expansion (divSteps fa div); sum = sumFrom sum (divSteps fa div) })
-diversified-same fa div sum rows out count s₁ s₂ qr qo qc q₁ q₂ =
-    let o : out ≡ aes 4 fa div = qo ∙ ap (λ (w : List (List ℕ)). cipher 10 w div) qr in
+    (record { key = aesUnder fa div; encipherments = counted encipherment (divSteps fa div); expansions = counted expansion (divSteps fa div); sum = sumFrom sum (divSteps fa div) })
+diversified-same fa div sum rows out count s₁ s₂ l qr qo qc q₁ q₂ =
+    let eleven : 11 ≡ length fa / 4 + 7 = omega arith in
+    let o : out ≡ aesUnder fa div = qo ∙ ap (λ (n : ℕ). cipherBy (take n rows) div) eleven ∙ ap (λ (f : List ℕ → List ℕ). f div) (lent-aes fa qr) in
     let s : s₂ ≡ sumFrom sum (divSteps fa div) = q₂ ∙ ap₂ (λ (x : ℕ) (y : List ℕ). mixedAll x (bytesOf (record { kind = encipherment; key = fa; input = div; output = y }))) q₁ o in
     λ i. record { key = o i; encipherments = 1; expansions = qc i; sum = s i }
 
@@ -66,32 +66,30 @@ deciphered-same key d z t y inv n sum m e qt qm qy =
     λ i. record { text = p i; count = q i .count; sum = q i .sum }
 
 -- up to the hash
-pub opened-same : (c : Card) (d fa rnd hash : List ℕ) (k : Diversified) (e : Expanded) (rows : List (List ℕ)) (t : Deciphered) (h : Hashing) →
+pub opened-same : (c : Card) (d fa rnd hash : List ℕ) (k : Diversified) (e : Expanded) (t : Deciphered) (h : Hashing) →
     fa ≡ faKeyOf c →
-    k ≡ record { key = aes 4 fa (c .«div_data»); encipherments = counted encipherment (divSteps fa (c .«div_data»)); expansions = counted expansion (divSteps fa (c .«div_data»)); sum = sumFrom 0 (divSteps fa (c .«div_data»)) } →
-    e ≡ record { rows = roundKeys 4 (k .key); count = counted expansion (expansionStep (k .key) ∷ []); sum = sumFrom (k .sum) (expansionStep (k .key) ∷ []) } →
-    rows ≡ e .rows →
-    t ≡ record { text = over (replicate 240 0) 0 (decrypted (invCipher 10 rows) zeros (blocksIn d) d); count = counted decipherment (deciphered (k .key) (invCipher 10 rows) (blocksIn d) d); sum = sumFrom (e .sum) (deciphered (k .key) (invCipher 10 rows) (blocksIn d) d) } →
+    k ≡ record { key = aesUnder fa (c .«div_data»); encipherments = counted encipherment (divSteps fa (c .«div_data»)); expansions = counted expansion (divSteps fa (c .«div_data»)); sum = sumFrom 0 (divSteps fa (c .«div_data»)) } →
+    e ≡ record { rows = fifteen (length (k .key) / 4) (k .key); count = counted expansion (expansionStep (k .key) ∷ []); sum = sumFrom (k .sum) (expansionStep (k .key) ∷ []) } →
+    t ≡ record { text = over (replicate 240 0) 0 (decrypted (invAesUnder (k .key)) zeros (blocksIn d) d); count = counted decipherment (deciphered (k .key) (invAesUnder (k .key)) (blocksIn d) d); sum = sumFrom (e .sum) (deciphered (k .key) (invAesUnder (k .key)) (blocksIn d) d) } →
     rnd ≡ cond (c .session .opened) (c .session .rnd1) zeros →
     h ≡ record { digest = sha256 (rnd ++ part (t .text) 2 16); count = counted hashBlock (hashSteps (rnd ++ part (t .text) 2 16)); sum = sumFrom (t .sum) (hashSteps (rnd ++ part (t .text) 2 16)) } →
     hash ≡ part (h .digest) 0 16 →
     _≡_ {A = Opened} (record { text = t .text; hash = hash; decipherments = t .count; encipherments = k .encipherments; expansions = k .expansions + e .count; «hash_blocks» = h .count; sum = h .sum }) (openedText c d)
 unfolding diversified textOf rnd1Of hashedOf keysHash textSteps
-opened-same c d fa rnd hash k e rows t h qfa qk qe qrows qt qrnd qh qhash =
+opened-same c d fa rnd hash k e t h qfa qk qe qt qrnd qh qhash =
     let div : List ℕ = c .«div_data» in
-    let key : k .key ≡ diversified c = ap (λ (r : Diversified). r .key) qk ∙ ap (λ (x : List ℕ). aes 4 x div) qfa in
+    let key : k .key ≡ diversified c = ap (λ (r : Diversified). r .key) qk ∙ ap (λ (x : List ℕ). aesUnder x div) qfa in
     let s₁ : k .sum ≡ sumFrom 0 (divSteps (faKeyOf c) div) = ap (λ (r : Diversified). r .sum) qk ∙ ap (λ (x : List ℕ). sumFrom 0 (divSteps x div)) qfa in
-    let ks : rows ≡ roundKeys 4 (diversified c) = qrows ∙ ap (λ (r : Expanded). r .rows) qe ∙ ap (roundKeys 4) key in
     let s₂ : e .sum ≡ sumFrom (sumFrom 0 (divSteps (faKeyOf c) div)) (expansionStep (diversified c) ∷ []) =
     ap (λ (r : Expanded). r .sum) qe ∙ ap₂ (λ (s : ℕ) (x : List ℕ). sumFrom s (expansionStep x ∷ [])) s₁ key in
-    let text : t .text ≡ textOf c d = ap (λ (r : Deciphered). r .text) qt ∙ ap (λ (w : List (List ℕ)). over (replicate 240 0) 0 (decrypted (invCipher 10 w) zeros (blocksIn d) d)) ks in
-    let made : deciphered (k .key) (invCipher 10 rows) (blocksIn d) d ≡ deciphered (diversified c) (invAes 4 (diversified c)) (blocksIn d) d =
-    ap₂ (λ (x : List ℕ) (w : List (List ℕ)). deciphered x (invCipher 10 w) (blocksIn d) d) key ks in
+    let text : t .text ≡ textOf c d = ap (λ (r : Deciphered). r .text) qt ∙ ap (λ (x : List ℕ). over (replicate 240 0) 0 (decrypted (invAesUnder x) zeros (blocksIn d) d)) key in
+    let made : deciphered (k .key) (invAesUnder (k .key)) (blocksIn d) d ≡ deciphered (diversified c) (invAesUnder (diversified c)) (blocksIn d) d =
+    ap (λ (x : List ℕ). deciphered x (invAesUnder x) (blocksIn d) d) key in
     let m : rnd ++ part (t .text) 2 16 ≡ hashedOf c d = ap₂ (λ (x y : List ℕ). x ++ part y 2 16) qrnd text in
     let s₄ : h .sum ≡ sumFrom 0 (textSteps c d) =
     ap (λ (r : Hashing). r .sum) qh
     ∙ ap₂ (λ (s : ℕ) (x : List ℕ). sumFrom s (hashSteps x)) (ap (λ (r : Deciphered). r .sum) qt ∙ ap₂ sumFrom s₂ made) m
-    ∙ sym (sum-four 0 (divSteps (faKeyOf c) div) (expansionStep (diversified c) ∷ []) (deciphered (diversified c) (invAes 4 (diversified c)) (blocksIn d) d) (hashSteps (hashedOf c d))) in
+    ∙ sym (sum-four 0 (divSteps (faKeyOf c) div) (expansionStep (diversified c) ∷ []) (deciphered (diversified c) (invAesUnder (diversified c)) (blocksIn d) d) (hashSteps (hashedOf c d))) in
     let digest : hash ≡ keysHash c d = qhash ∙ ap (λ (x : List ℕ). part x 0 16) (ap (λ (r : Hashing). r .digest) qh ∙ ap sha256 m) in
     let n₁ : t .count ≡ counted decipherment (textSteps c d) = ap (λ (r : Deciphered). r .count) qt ∙ ap (counted decipherment) made ∙ text-decipherments c d in
     let n₂ : k .encipherments ≡ counted encipherment (textSteps c d) = ap (λ (r : Diversified). r .encipherments) qk ∙ sym (text-encipherments c d) in
@@ -101,39 +99,36 @@ opened-same c d fa rnd hash k e rows t h qfa qk qe qrows qt qrnd qh qhash =
     λ i. record { text = text i; hash = digest i; decipherments = n₁ i; encipherments = n₂ i; expansions = n₃ i; «hash_blocks» = n₄ i; sum = s₄ i }
 
 -- behind the verdict: `buffer` is the reply text of so many blocks in its buffer b, and y the front of b enciphered
-module _ (key key′ b y o o′ : List ℕ) (rows : List (List ℕ)) (size size′ n sum : ℕ) (buffer : ℕ → List ℕ) (e : Expanded) (m : Made)
-    (qk : key ≡ key′) (qe : e ≡ record { rows = roundKeys 4 key; count = counted expansion (expansionStep key ∷ []); sum = sumFrom sum (expansionStep key ∷ []) })
-    (qr : rows ≡ e .rows) (qs : size ≡ size′) (qb : b ≡ buffer size) (long : length b ≡ 96) (most : size ≤ 6) (qn : n ≡ 16 * size) where
-  ciph-is : cipher 10 rows ≡ aes 4 key
-  ciph-is = ap (cipher 10) (qr ∙ ap (λ (r : Expanded). r .rows) qe)
-
+module _ (key key′ b y o o′ : List ℕ) (size size′ n sum : ℕ) (buffer : ℕ → List ℕ) (e : Expanded) (m : Made)
+    (qk : key ≡ key′) (qe : e ≡ record { rows = fifteen (length key / 4) key; count = counted expansion (expansionStep key ∷ []); sum = sumFrom sum (expansionStep key ∷ []) })
+    (qs : size ≡ size′) (qb : b ≡ buffer size) (long : length b ≡ 96) (most : size ≤ 6) (qn : n ≡ 16 * size) where
   within : n ≤ length b
   within = omega arith
 
   buffer-is : b ≡ buffer size′
   buffer-is = qb ∙ ap buffer qs
 
-  pub sent-same : m ≡ made encipherment (e .sum) (enciphered key (cipher 10 rows) zeros (length (take n b) / 16) (take n b)) →
+  pub sent-same : m ≡ made encipherment (e .sum) (enciphered key (aesUnder key) zeros (length (take n b) / 16) (take n b)) →
       _≡_ {A = Sent} (record { encipherments = m .count; expansions = e .count; length = n; sum = m .sum }) (sent key′ size′ (buffer size′) sum)
   unfolding replySteps
   sent-same qm =
-      let steps : List Step = enciphered key (aes 4 key) zeros size b in
+      let steps : List Step = enciphered key (aesUnder key) zeros size b in
       let q : m ≡ made encipherment (sumFrom sum (expansionStep key ∷ [])) steps =
       qm
-      ∙ ap₂ (λ (s : ℕ) (f : List ℕ → List ℕ). made encipherment s (enciphered key f zeros (length (take n b) / 16) (take n b))) (ap (λ (r : Expanded). r .sum) qe) ciph-is
-      ∙ ap (made encipherment (sumFrom sum (expansionStep key ∷ []))) (front-enciphered b (take n b) n size qn within refl key (aes 4 key) zeros) in
-      let n₁ : m .count ≡ counted encipherment (replySteps key size b) = ap (λ (r : Made). r .count) q ∙ counted-enciphered key (aes 4 key) size zeros b ∙ sym (reply-encipherments key size b) in
+      ∙ ap (λ (s : ℕ). made encipherment s (enciphered key (aesUnder key) zeros (length (take n b) / 16) (take n b))) (ap (λ (r : Expanded). r .sum) qe)
+      ∙ ap (made encipherment (sumFrom sum (expansionStep key ∷ []))) (front-enciphered b (take n b) n size qn within refl key (aesUnder key) zeros) in
+      let n₁ : m .count ≡ counted encipherment (replySteps key size b) = ap (λ (r : Made). r .count) q ∙ counted-enciphered key (aesUnder key) size zeros b ∙ sym (reply-encipherments key size b) in
       let n₂ : e .count ≡ counted expansion (replySteps key size b) = ap (λ (r : Expanded). r .count) qe ∙ sym (reply-expansions key size b) in
       let s : m .sum ≡ sumFrom sum (replySteps key size b) = ap (λ (r : Made). r .sum) q ∙ sym (sumFrom-append sum (expansionStep key ∷ []) steps) in
       let a : _≡_ {A = Sent} (record { encipherments = m .count; expansions = e .count; length = n; sum = m .sum }) (sent key size b sum) =
       λ i. record { encipherments = n₁ i; expansions = n₂ i; length = qn i; sum = s i } in
       a ∙ (λ i. sent (qk i) (qs i) (buffer-is i) sum)
 
-  pub bytes-same : y ≡ encryptedWhole (cipher 10 rows) zeros (take n b) → o′ ≡ over o 0 (take n (y ++ drop n b)) → o′ ≡ over o 0 (encrypted (aes 4 key′) zeros size′ (buffer size′))
+  pub bytes-same : y ≡ encryptedWhole (aesUnder key) zeros (take n b) → o′ ≡ over o 0 (take n (y ++ drop n b)) → o′ ≡ over o 0 (encrypted (aesUnder key′) zeros size′ (buffer size′))
   bytes-same qy qo =
-      let v : take n (y ++ drop n b) ≡ encrypted (aes 4 key) zeros size b =
-      buffer-encrypted b (take n b) n size qn within refl y (aes 4 key) zeros (length-aes 4 key) (qy ∙ ap (λ (f : List ℕ → List ℕ). encryptedWhole f zeros (take n b)) ciph-is) in
-      qo ∙ ap (over o 0) v ∙ (λ i. over o 0 (encrypted (aes 4 (qk i)) zeros (qs i) (buffer-is i)))
+      let v : take n (y ++ drop n b) ≡ encrypted (aesUnder key) zeros size b =
+      buffer-encrypted b (take n b) n size qn within refl y (aesUnder key) zeros (length-aes (length key / 4) key) qy in
+      qo ∙ ap (over o 0) v ∙ (λ i. over o 0 (encrypted (aesUnder (qk i)) zeros (qs i) (buffer-is i)))
 
 -- the whole
 module _ (c : Card) (d fresh : List ℕ) where
@@ -143,7 +138,7 @@ module _ (c : Card) (d fresh : List ℕ) where
       append-assoc
       (textSteps c d ++ modeSteps (opMode (textOf c d)) (c .modes))
       (expansionStep (replyKey c d) ∷ [])
-      (enciphered (replyKey c d) (aes 4 (replyKey c d)) zeros (sizeOf c) (replyBuffer c d fresh))
+      (enciphered (replyKey c d) (aesUnder (replyKey c d)) zeros (sizeOf c) (replyBuffer c d fresh))
 
   count-are : (k : ℕ) →
       counted k (textSteps c d) + counted k (modeSteps (opMode (textOf c d)) (c .modes)) + counted k (replySteps (replyKey c d) (sizeOf c) (replyBuffer c d fresh)) ≡ counted k (finalReply c d fresh .steps)
@@ -220,7 +215,7 @@ module _ (c : Card) (d fresh : List ℕ) where
         λ i. record { comparisons = n₁ i; decipherments = n₂ i; encipherments = n₃ i; expansions = n₄ i; «hash_blocks» = n₅ i; length = l i; sum = t i }
 
     pub final-bytes : (out out′ : List ℕ) →
-        out′ ≡ over out 0 (encrypted (aes 4 (cond ok (o .hash) (c .«shill_key»))) zeros (sizeOf c) (bufferOf (replyText ok (c .area) mode (c .«div_data») fresh (sizeOf c)))) →
+        out′ ≡ over out 0 (encrypted (aesUnder (cond ok (o .hash) (c .«shill_key»))) zeros (sizeOf c) (bufferOf (replyText ok (c .area) mode (c .«div_data») fresh (sizeOf c)))) →
         out′ ≡ over out 0 (finalReply c d fresh .bytes)
     unfolding finalReply finalBytes
-    final-bytes out out′ q = q ∙ ap₂ (λ (x y : List ℕ). over out 0 (encrypted (aes 4 x) zeros (sizeOf c) y)) key-is buffer-same
+    final-bytes out out′ q = q ∙ ap₂ (λ (x y : List ℕ). over out 0 (encrypted (aesUnder x) zeros (sizeOf c) y)) key-is buffer-same

@@ -6,7 +6,7 @@ use Prim.Native.Nat.{ℕ, _+_, _≤_}
 use native.Mathlib.Omega.{arith}
 use lib.Dec.{ltb}
 use borrow.Author.Tests.{ltb-true}
-use Rattle.aes.specs.Aes.{aes, invAes}
+use Rattle.aes.specs.Aes.{aesUnder, invAesUnder}
 use Rattle.work.specs.Steps.{Step, comparison, decipherment, encipherment, expansion, hashBlock, counted, sumFrom}
 use Rattle.work.specs.Laws.{sumFrom-append, counted-append}
 use Rattle.cbc.specs.Steps.{enciphered, deciphered}
@@ -32,19 +32,19 @@ count-four k a b c d =
 module _ (c : Card) (d : List ℕ) where
   text-count : (k : ℕ) →
       counted k (textSteps c d) ≡ counted k (divSteps (faKeyOf c) (c .«div_data»)) + counted k (expansionStep (diversified c) ∷ [])
-      + counted k (deciphered (diversified c) (invAes 4 (diversified c)) (blocksIn d) d)
+      + counted k (deciphered (diversified c) (invAesUnder (diversified c)) (blocksIn d) d)
       + counted k (hashSteps (hashedOf c d))
   unfolding textSteps
   text-count k =
-      count-four k (divSteps (faKeyOf c) (c .«div_data»)) (expansionStep (diversified c) ∷ []) (deciphered (diversified c) (invAes 4 (diversified c)) (blocksIn d) d) (hashSteps (hashedOf c d))
+      count-four k (divSteps (faKeyOf c) (c .«div_data»)) (expansionStep (diversified c) ∷ []) (deciphered (diversified c) (invAesUnder (diversified c)) (blocksIn d) d) (hashSteps (hashedOf c d))
 
-  no-decipherments : (k : ℕ) → (decipherment ≡ k → ⊥) → counted k (deciphered (diversified c) (invAes 4 (diversified c)) (blocksIn d) d) ≡ 0
-  no-decipherments k h = other-deciphered (diversified c) (invAes 4 (diversified c)) k (blocksIn d) d h
+  no-decipherments : (k : ℕ) → (decipherment ≡ k → ⊥) → counted k (deciphered (diversified c) (invAesUnder (diversified c)) (blocksIn d) d) ≡ 0
+  no-decipherments k h = other-deciphered (diversified c) (invAesUnder (diversified c)) k (blocksIn d) d h
 
   pub text-comparisons : counted comparison (textSteps c d) ≡ 0
   text-comparisons = text-count comparison ∙ omega (arith, no-decipherments comparison (λ e. omega arith), counted-hash comparison (hashedOf c d))
 
-  pub text-decipherments : counted decipherment (deciphered (diversified c) (invAes 4 (diversified c)) (blocksIn d) d) ≡ counted decipherment (textSteps c d)
+  pub text-decipherments : counted decipherment (deciphered (diversified c) (invAesUnder (diversified c)) (blocksIn d) d) ≡ counted decipherment (textSteps c d)
   text-decipherments = sym (text-count decipherment ∙ omega (arith, counted-hash decipherment (hashedOf c d)))
 
   pub text-encipherments : counted encipherment (textSteps c d) ≡ 1
@@ -58,12 +58,12 @@ module _ (c : Card) (d : List ℕ) where
 
 -- the steps behind the verdict
 module _ (key : List ℕ) (n : ℕ) (b : List ℕ) where
-  reply-count : (k : ℕ) → counted k (replySteps key n b) ≡ counted k (expansionStep key ∷ []) + counted k (enciphered key (aes 4 key) zeros n b)
+  reply-count : (k : ℕ) → counted k (replySteps key n b) ≡ counted k (expansionStep key ∷ []) + counted k (enciphered key (aesUnder key) zeros n b)
   unfolding replySteps
-  reply-count k = counted-append k (expansionStep key ∷ []) (enciphered key (aes 4 key) zeros n b)
+  reply-count k = counted-append k (expansionStep key ∷ []) (enciphered key (aesUnder key) zeros n b)
 
-  no-encipherments : (k : ℕ) → (encipherment ≡ k → ⊥) → counted k (enciphered key (aes 4 key) zeros n b) ≡ 0
-  no-encipherments k h = other-enciphered key (aes 4 key) k n zeros b h
+  no-encipherments : (k : ℕ) → (encipherment ≡ k → ⊥) → counted k (enciphered key (aesUnder key) zeros n b) ≡ 0
+  no-encipherments k h = other-enciphered key (aesUnder key) k n zeros b h
 
   pub reply-comparisons : counted comparison (replySteps key n b) ≡ 0
   reply-comparisons = reply-count comparison ∙ omega (arith, no-encipherments comparison (λ e. omega arith))
@@ -72,7 +72,7 @@ module _ (key : List ℕ) (n : ℕ) (b : List ℕ) where
   reply-decipherments = reply-count decipherment ∙ omega (arith, no-encipherments decipherment (λ e. omega arith))
 
   pub reply-encipherments : counted encipherment (replySteps key n b) ≡ n
-  reply-encipherments = reply-count encipherment ∙ omega (arith, counted-enciphered key (aes 4 key) n zeros b)
+  reply-encipherments = reply-count encipherment ∙ omega (arith, counted-enciphered key (aesUnder key) n zeros b)
 
   pub reply-expansions : counted expansion (replySteps key n b) ≡ 1
   reply-expansions = reply-count expansion ∙ omega (arith, no-encipherments expansion (λ e. omega arith))

@@ -6,7 +6,7 @@ use lib.Dec.{eqb, ltb, leb}
 use lib.ListN.{length, getD, replicate}
 use Rattle.octets.specs.Lists.{part, over}
 use Rattle.octets.specs.Bytes.{same}
-use Rattle.aes.specs.Aes.{aes, invAes}
+use Rattle.aes.specs.Aes.{aesUnder, invAesUnder}
 use Rattle.sha_block.specs.Hash.{sha256}
 use Rattle.padding.specs.Method2.{padded, end, rightly}
 use Rattle.work.specs.Steps.{Step}
@@ -37,7 +37,7 @@ rnd1Of c = cond (c .session .opened) (c .session .rnd1) zeros
 
 -- "encipher DivData, giving the diversified key"
 unfoldable pub diversified : Card → List ℕ
-diversified c = aes 4 (faKeyOf c) (c .«div_data»)
+diversified c = aesUnder (faKeyOf c) (c .«div_data»)
 
 -- "n = floor(Lc/16)"
 abbrev pub blocksIn : List ℕ → ℕ
@@ -45,7 +45,7 @@ blocksIn d = length d / 16
 
 -- "decipher n blocks by CBC into 240 bytes that start as zero"
 unfoldable pub textOf : Card → List ℕ → List ℕ
-textOf c d = over (replicate 240 0) 0 (decrypted (invAes 4 (diversified c)) zeros (blocksIn d) d)
+textOf c d = over (replicate 240 0) 0 (decrypted (invAesUnder (diversified c)) zeros (blocksIn d) d)
 
 -- "hash RND1 and bytes 2 to 17 of these, counted from 0"
 unfoldable pub hashedOf : Card → List ℕ → List ℕ
@@ -111,19 +111,19 @@ replyBuffer c d fresh = over (replicate 96 0) 0 (replyText (acceptsFinal c d) (c
 
 -- "encipher B blocks", "by CBC"
 unfoldable pub finalBytes : Card → List ℕ → List ℕ → List ℕ
-finalBytes c d fresh = encrypted (aes 4 (replyKey c d)) zeros (sizeOf c) (replyBuffer c d fresh)
+finalBytes c d fresh = encrypted (aesUnder (replyKey c d)) zeros (sizeOf c) (replyBuffer c d fresh)
 
 -- "Steps, always all: expand FAKey; encipher DivData ..; expand it; decipher n blocks ..; hash ..; compare ..; expand the reply key; encipher B blocks."
 unfoldable pub finalSteps : Card → List ℕ → List ℕ → List Step
 finalSteps c d fresh =
     (expansionStep (faKeyOf c) ∷ []) ++
-    (encipherStep (faKeyOf c) (aes 4 (faKeyOf c)) (c .«div_data») ∷ []) ++
+    (encipherStep (faKeyOf c) (aesUnder (faKeyOf c)) (c .«div_data») ∷ []) ++
     (expansionStep (diversified c) ∷ []) ++
-    deciphered (diversified c) (invAes 4 (diversified c)) (blocksIn d) d ++
+    deciphered (diversified c) (invAesUnder (diversified c)) (blocksIn d) d ++
     hashSteps (hashedOf c d) ++
     modeSteps (opMode (textOf c d)) (c .modes) ++
     (expansionStep (replyKey c d) ∷ []) ++
-    enciphered (replyKey c d) (aes 4 (replyKey c d)) zeros (sizeOf c) (replyBuffer c d fresh)
+    enciphered (replyKey c d) (aesUnder (replyKey c d)) zeros (sizeOf c) (replyBuffer c d fresh)
 
 -- "The session closes either way. A final answer's key handle is 0."
 unfoldable pub finalReply : Card → List ℕ → List ℕ → Reply

@@ -2,7 +2,7 @@
 use mathlib.Core.Path.{_≡_, refl, ap, _∙_}
 use mathlib.Core.Bool.{Bool, true, false, cond}
 use mathlib.Core.List.{List, [], _∷_}
-use Prim.Native.Nat.{ℕ, zero, suc, _+_, _-_, _*_, _≤_}
+use Prim.Native.Nat.{ℕ, zero, suc, _+_, _-_, _*_, _/_, _≤_}
 use native.Mathlib.Omega.{arith}
 use lib.Dec.{eqb, ltb}
 use lib.ListN.{length, replicate, take, drop, length-append, length-drop, length-replicate}
@@ -11,7 +11,7 @@ use borrow.Author.Tests.{ltb-false}
 use Rattle.octets.specs.Bytes.{Bytes}
 use Rattle.octets.specs.ByteLists.{append-bytes, zeros-bytes}
 use Rattle.octets.specs.Lists.{part, over, table, length-part}
-use Rattle.aes.specs.Aes.{aes, invAes}
+use Rattle.aes.specs.Aes.{aesUnder, invAesUnder}
 use Rattle.aes.specs.RoundTrip.{length-aes}
 use Rattle.padding.specs.Method2.{blocksFor}
 use Rattle.sha_padding.specs.Parsing.{blocks}
@@ -30,7 +30,7 @@ use Rattle.final_command.specs.Final.{rnd1Of, diversified, blocksIn, tex
 -- "Answer length: .. 16B"
 pub final-length : (c : Card) (d fresh : List ℕ) → length (finalReply c d fresh .bytes) ≡ 16 * sizeOf c
 unfolding finalReply finalBytes
-final-length c d fresh = length-encrypted (aes 4 (replyKey c d)) (length-aes 4 (replyKey c d)) (sizeOf c) zeros (replyBuffer c d fresh)
+final-length c d fresh = length-encrypted (aesUnder (replyKey c d)) (length-aes (length (replyKey c d) / 4) (replyKey c d)) (sizeOf c) zeros (replyBuffer c d fresh)
 
 pub least-is : (a b : ℕ) (t : Bool) → ltb a b ≡ t → a ≤ b → cond t a b ≡ a
 least-is a b true e h = refl
@@ -95,7 +95,7 @@ length-hashed : (c : Card) (d : List ℕ) → length (rnd1Of c) ≡ 16 → lengt
 unfolding hashedOf textOf
 length-hashed c d h =
     length-append (rnd1Of c) (part (textOf c d) 2 16)
-    ∙ omega (arith, length-part (textOf c d) 2 16 (omega (arith, length-over-most (replicate 240 0) (decrypted (invAes 4 (diversified c)) zeros (blocksIn d) d))))
+    ∙ omega (arith, length-part (textOf c d) 2 16 (omega (arith, length-over-most (replicate 240 0) (decrypted (invAesUnder (diversified c)) zeros (blocksIn d) d))))
 
 -- "Final: 16 comparisons, n decipherments, B + 1 encipherments, 3 expansions, 1 hash block."
 module _ (c : Card) (d fresh : List ℕ) (lm : length (c .modes) ≡ 16) (lr : length (rnd1Of c) ≡ 16) where

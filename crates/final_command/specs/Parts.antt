@@ -3,7 +3,7 @@ use mathlib.Core.List.{List, [], _∷_, _++_}
 use Prim.Native.Nat.{ℕ, _*_}
 use lib.ListN.{replicate}
 use Rattle.octets.specs.Lists.{over}
-use Rattle.aes.specs.Aes.{aes, invAes}
+use Rattle.aes.specs.Aes.{aesUnder, invAesUnder}
 use Rattle.work.specs.Steps.{Step, decipherment, encipherment, expansion, hashBlock, counted, sumFrom}
 use Rattle.cbc.specs.Steps.{encipherStep, enciphered, deciphered}
 use Rattle.cbc.specs.Cbc.{zeros}
@@ -15,14 +15,14 @@ use Rattle.final_command.specs.declared.Sent.{Sent}
 
 -- expand FAKey; encipher DivData
 abbrev pub divSteps : List ℕ → List ℕ → List Step
-divSteps fa div = expansionStep fa ∷ encipherStep fa (aes 4 fa) div ∷ []
+divSteps fa div = expansionStep fa ∷ encipherStep fa (aesUnder fa) div ∷ []
 
 -- these, and then expand the diversified key; decipher n blocks; hash
 unfoldable pub textSteps : Card → List ℕ → List Step
 textSteps c d =
     divSteps (faKeyOf c) (c .«div_data») ++
     (expansionStep (diversified c) ∷ []) ++
-    deciphered (diversified c) (invAes 4 (diversified c)) (blocksIn d) d ++
+    deciphered (diversified c) (invAesUnder (diversified c)) (blocksIn d) d ++
     hashSteps (hashedOf c d)
 
 -- what is told of them
@@ -40,7 +40,7 @@ openedText c d =
 
 -- expand the reply key; encipher n blocks of the buffer
 unfoldable pub replySteps : List ℕ → ℕ → List ℕ → List Step
-replySteps key n buffer = (expansionStep key ∷ []) ++ enciphered key (aes 4 key) zeros n buffer
+replySteps key n buffer = (expansionStep key ∷ []) ++ enciphered key (aesUnder key) zeros n buffer
 
 -- what is told of them, after a sum
 abbrev pub sent : List ℕ → ℕ → List ℕ → ℕ → Sent

@@ -13,8 +13,8 @@ ghost use lib.Dec.{leb};
 ghost use lib.ListN.{length, getD, replicate};
 ghost use Rattle.octets.specs.Bytes.{same};
 ghost use Rattle.octets.specs.Lists.{part, over};
-ghost use Rattle.rounds.specs.InvCipher.{invCipher};
-ghost use Rattle.aes.specs.Aes.{aes};
+ghost use Rattle.key_expansion.specs.Schedule.{fifteen};
+ghost use Rattle.aes.specs.Aes.{aesUnder, invAesUnder};
 ghost use Rattle.sha_block.specs.Hash.{sha256};
 ghost use Rattle.padding.specs.Method2.{rightly, end};
 ghost use Rattle.work.specs.Steps.{comparison, decipherment, encipherment, expansion, hashBlock, counted, sumFrom};
@@ -81,11 +81,11 @@ struct Diversified {
 
 // DivData enciphered by AES itself: one step.
 fn diversify(fa: [u8; 16], div: [u8; 16], sum: u32) -> Diversified
-    ensures { λ r. ⌜ r ≡ record { key = aes 4 fa div; encipherments = counted encipherment (divSteps fa div); expansions = counted expansion (divSteps fa div); sum = sumFrom sum (divSteps fa div) } ⌝ }
+    ensures { λ r. ⌜ r ≡ record { key = aesUnder fa div; encipherments = counted encipherment (divSteps fa div); expansions = counted expansion (divSteps fa div); sum = sumFrom sum (divSteps fa div) } ⌝ }
 {
-    let e = steps::expand(fa, sum);
+    let e = steps::expand(&fa, sum);
     let rows = steps::round_keys(e);
-    let out = aes::encipher(&rows, div);
+    let out = aes::encipher(&rows[..11], div);
     Diversified {
         key: out,
         encipherments: 1,
@@ -105,14 +105,14 @@ impl Deciphered {
 }
 
 // The whole blocks of d, deciphered into bytes that start as zero.
-fn decipher(key: [u8; 16], rows: &[[u8; 16]; 11], d: &[u8], sum: u32) -> Deciphered
-    requires { ⌜ length (now d) < 256 ⌝ }
-    ensures { λ r. ⌜ r ≡ record { text = over (replicate 240 0) 0 (decrypted (invCipher 10 (now (rows .entry))) zeros (blocksIn (now (d .entry))) (now (d .entry))); count = counted decipherment (deciphered key (invCipher 10 (now (rows .entry))) (blocksIn (now (d .entry))) (now (d .entry))); sum = sumFrom sum (deciphered key (invCipher 10 (now (rows .entry))) (blocksIn (now (d .entry))) (now (d .entry))) } ⌝ }
+fn decipher(key: [u8; 16], rows: &[[u8; 16]], d: &[u8], sum: u32) -> Deciphered
+    requires { ⌜ (now rows ≡ fifteen (length key / 4) key) × (length (now d) < 256) ⌝ }
+    ensures { λ r. ⌜ r ≡ record { text = over (replicate 240 0) 0 (decrypted (invAesUnder key) zeros (blocksIn (now (d .entry))) (now (d .entry))); count = counted decipherment (deciphered key (invAesUnder key) (blocksIn (now (d .entry))) (now (d .entry))); sum = sumFrom sum (deciphered key (invAesUnder key) (blocksIn (now (d .entry))) (now (d .entry))) } ⌝ }
 {
     let mut text = [0u8; Deciphered::TEXT];
     let n = 16 * (d.len() / 16);
     octets::copy_at(&mut text, 0, &d[..n]);
-    let m = cbc::decipher(&key, rows, [0u8; 16], &mut text[..n], sum);
+    let m = cbc::decipher_under(&key, rows, [0u8; 16], &mut text[..n], sum);
     Deciphered {
         text: text,
         count: m.count,
@@ -149,7 +149,7 @@ fn open_text(card: Card, d: &[u8]) -> Opened
     let rnd1 = session.rnd1;
     let k = diversify(fa_key(card), div, 0);
     let key = k.key;
-    let e = steps::expand(key, k.sum);
+    let e = steps::expand(&key, k.sum);
     let rows = steps::round_keys(e);
     let t = decipher(key, &rows, d, e.sum);
     let text = t.text;
@@ -332,18 +332,18 @@ fn reply(
 ) -> Sent
     requires { ⌜ (length (now fresh) ≡ 253) × (256 ≤ length (now out)) ⌝ }
     ensures told { λ r. ⌜ r ≡ sent (cond accepted hash (card .«shill_key»)) (sizeOf card) (bufferOf (replyText accepted (card .area) mode (card .«div_data») (now (fresh .entry)) (sizeOf card))) sum ⌝ }
-    ensures bytes { λ r. ⌜ now (out .exit) ≡ over (now (out .entry)) 0 (encrypted (aes 4 (cond accepted hash (card .«shill_key»))) zeros (sizeOf card) (bufferOf (replyText accepted (card .area) mode (card .«div_data») (now (fresh .entry)) (sizeOf card)))) ⌝ }
+    ensures bytes { λ r. ⌜ now (out .exit) ≡ over (now (out .entry)) 0 (encrypted (aesUnder (cond accepted hash (card .«shill_key»))) zeros (sizeOf card) (bufferOf (replyText accepted (card .area) mode (card .«div_data») (now (fresh .entry)) (sizeOf card)))) ⌝ }
 {
     let shill = card.shill_key;
     let area = card.area;
     let div = card.div_data;
     let key = choose(accepted, hash, shill);
-    let e = steps::expand(key, sum);
+    let e = steps::expand(&key, sum);
     let rows = steps::round_keys(e);
     let size = lesser(card.reply_size, Card::REPLY_MOST);
     let mut b = reply_text(accepted, area, mode, div, fresh, size);
     let n = 16 * size;
-    let m = cbc::encipher(&key, &rows, [0u8; 16], &mut b[..n], e.sum);
+    let m = cbc::encipher_under(&key, &rows, [0u8; 16], &mut b[..n], e.sum);
     octets::copy_at(out, 0, &b[..n]);
     Sent {
         encipherments: m.count,

@@ -7,9 +7,7 @@ use lib.ListN.{length, take, drop}
 use lib.Seq.{drop-at}
 use Rattle.octets.specs.Lists.{over}
 use Rattle.octets.specs.Writes.{take-over}
-use Rattle.rounds.specs.InvCipher.{invCipher}
-use Rattle.aes.specs.KeyExpansion.{roundKeys}
-use Rattle.aes.specs.Aes.{invAes}
+use Rattle.aes.specs.Aes.{invAesUnder}
 use Rattle.cbc.specs.Cbc.{decryptedWhole, zeros}
 use Rattle.cbc.specs.Laws.{decrypted-all}
 use Rattle.reader_accept.specs.Accept.{decipheredText}
@@ -26,18 +24,17 @@ over-again d s t l = ap (λ (x : List ℕ). t ++ x) (behind d s (0 + length t) (
 
 -- the response is copied, and deciphered where it stands
 pub deciphered-writes :
-    (hash response work : List ℕ) {w : List (List ℕ)} {e x : List ℕ}
+    (hash response work : List ℕ) {e x : List ℕ}
     → length response % 16 ≡ 0
-    → w ≡ roundKeys 4 hash
     → e ≡ over work 0 response
-    → x ≡ decryptedWhole (invCipher 10 w) zeros (take (length response) e)
+    → x ≡ decryptedWhole (invAesUnder hash) zeros (take (length response) e)
     → x ++ drop (length response) e ≡ over work 0 (decipheredText hash response)
 unfolding over decipheredText
-deciphered-writes hash response work {w} {e} {x} m qw q r =
+deciphered-writes hash response work {e} {x} m q r =
     let n : ℕ = length response in
     let t : x ≡ decipheredText hash response =
     r
-    ∙ ap₂ (λ (k : List (List ℕ)) (s : List ℕ). decryptedWhole (invCipher 10 k) zeros s) qw (ap (take n) q ∙ take-over work response n refl)
-    ∙ decrypted-all (invAes 4 hash) (n / 16) zeros response (omega arith) in
+    ∙ ap (decryptedWhole (invAesUnder hash) zeros) (ap (take n) q ∙ take-over work response n refl)
+    ∙ decrypted-all (invAesUnder hash) (n / 16) zeros response (omega arith) in
     let z : n ≡ 0 + length (decipheredText hash response) = omega (arith, length-text hash response m) in
     ap₂ (λ (a b : List ℕ). a ++ b) t (ap (drop n) q ∙ behind work response n refl ∙ ap (λ (k : ℕ). drop k work) z)

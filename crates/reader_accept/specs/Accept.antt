@@ -6,14 +6,14 @@ use lib.Dec.{eqb, ltb, leb}
 use lib.ListN.{length, replicate}
 use Rattle.octets.specs.Bytes.{same}
 use Rattle.octets.specs.Lists.{part, over}
-use Rattle.aes.specs.Aes.{invAes}
+use Rattle.aes.specs.Aes.{invAesUnder}
 use Rattle.padding.specs.Method2.{end, rightly}
 use Rattle.cbc.specs.Cbc.{decrypted, zeros}
 use Rattle.reader_accept.specs.declared.Accepted.{Accepted}
 
 -- "Decipher under KeysHash into a work buffer": the blocks of the response, by CBC from sixteen zero bytes on
 unfoldable pub decipheredText : List ℕ → List ℕ → List ℕ
-decipheredText hash response = decrypted (invAes 4 hash) zeros (length response / 16) response
+decipheredText hash response = decrypted (invAesUnder hash) zeros (length response / 16) response
 
 -- "unpad": how many bytes of s stand before its padding
 abbrev pub textLength : List ℕ → ℕ

@@ -14,7 +14,7 @@ use Rattle.octets.specs.Same.{split-and, same-true}
 use Rattle.octets.specs.Lists.{part, over, length-part}
 use Rattle.octets.specs.Writes.{over-front}
 use Rattle.octets.specs.ByteLists.{zeros-bytes, part-bytes}
-use Rattle.aes.specs.Aes.{aes, invAes}
+use Rattle.aes.specs.Aes.{aesUnder, invAesUnder}
 use Rattle.padding.specs.Method2.{blocksFor, padded, unpadded, rightly}
 use Rattle.padding.specs.Laws.{unpadded-lt, unpadded-whole, padded-unpadded}
 use Rattle.padding.specs.declared.Unpadded.the-variants.{Text}
@@ -152,13 +152,13 @@ module _ (hash div : List ℕ) (len : ℕ) (response work : List ℕ) (hh : Byte
   replied-is : response ≡ cardReply hash (bodyIn hash response) div
   unfolding decipheredText
   replied-is =
-      sym (encrypted-decrypted-aes 4 hash hh zeros response (zeros-bytes 16) hr (length response / 16) (omega (arith, sized .whole)))
-      ∙ ap₂ (λ (n : ℕ) (t : List ℕ). encrypted (aes 4 hash) zeros n t) (sym blocks-is) (sym text-is)
+      sym (encrypted-decrypted-aes (length hash / 4) hash hh zeros response (zeros-bytes 16) hr (length response / 16) (omega (arith, sized .whole)))
+      ∙ ap₂ (λ (n : ℕ) (t : List ℕ). encrypted (aesUnder hash) zeros n t) (sym blocks-is) (sym text-is)
 
   text-bytes : Bytes (decipheredText hash response)
   unfolding decipheredText
   text-bytes =
-      decrypted-bytes (aes 4 hash) (invAes 4 hash) (aes-cipher 4 hash hh) zeros response (zeros-bytes 16) hr (length response / 16)
+      decrypted-bytes (aesUnder hash) (invAesUnder hash) (aes-cipher (length hash / 4) hash hh) zeros response (zeros-bytes 16) hr (length response / 16)
       (omega (arith, sized .whole))
 
   block-is : Block div

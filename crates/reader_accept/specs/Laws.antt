@@ -7,7 +7,7 @@ use native.Mathlib.Omega.{arith}
 use borrow.Author.Tests.{eqb-true}
 use lib.Dec.{eqb}
 use lib.ListN.{length}
-use Rattle.aes.specs.Aes.{invAes}
+use Rattle.aes.specs.Aes.{invAesUnder}
 use Rattle.cbc.specs.Lengths.{length-decrypted}
 use Rattle.cbc.specs.Cbc.{zeros}
 use Rattle.reader_accept.specs.Accept.{decipheredText, knownLength}
@@ -35,4 +35,4 @@ known n =
 
 pub length-text : (hash response : List ℕ) → length response % 16 ≡ 0 → length (decipheredText hash response) ≡ length response
 unfolding decipheredText
-length-text hash response w = length-decrypted (invAes 4 hash) (length response / 16) zeros response ∙ omega arith
+length-text hash response w = length-decrypted (invAesUnder hash) (length response / 16) zeros response ∙ omega arith

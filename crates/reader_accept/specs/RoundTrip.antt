@@ -11,7 +11,7 @@ use Rattle.octets.specs.Bytes.{Bytes, Block}
 use Rattle.octets.specs.Same.{same-refl}
 use Rattle.octets.specs.Lists.{part, over}
 use Rattle.octets.specs.ByteLists.{append-bytes, zeros-bytes}
-use Rattle.aes.specs.Aes.{aes, invAes}
+use Rattle.aes.specs.Aes.{aesUnder, invAesUnder}
 use Rattle.aes.specs.RoundTrip.{length-aes}
 use Rattle.padding.specs.Method2.{blocksFor, zeroBytes, padded, unpadded, rightly}
 use Rattle.padding.specs.Laws.{length-padded, unpadded-padded, padded-bytes}
@@ -24,7 +24,7 @@ use Rattle.reader_accept.specs.Accept.{decipheredText, textLength, right
 -- Document 01: "the reply is record, DivData and padding", enciphered by CBC under KeysHash: the answer of a card that accepted. T-01: "A shorter
 -- record is followed by a payload of zero bytes". The body is the record and that filler
 abbrev pub cardReply : List ℕ → List ℕ → List ℕ → List ℕ
-cardReply hash body div = encrypted (aes 4 hash) zeros (blocksFor (length body + 16)) (padded (body ++ div))
+cardReply hash body div = encrypted (aesUnder hash) zeros (blocksFor (length body + 16)) (padded (body ++ div))
 
 -- 17 to 80 bytes take 2 to 6 blocks
 known-at : (b : ℕ) → b ≤ 4 → knownLength (16 * b + 32) ≡ true
@@ -102,14 +102,14 @@ module _ (hash body div : List ℕ) (len : ℕ) (work : List ℕ) (hh : Bytes ha
 
   length-reply : length (cardReply hash body div) ≡ 16 * blocks
   unfolding blocks
-  length-reply = length-encrypted (aes 4 hash) (length-aes 4 hash) blocks zeros (padded (body ++ div))
+  length-reply = length-encrypted (aesUnder hash) (length-aes (length hash / 4) hash) blocks zeros (padded (body ++ div))
 
   reply-text : decipheredText hash (cardReply hash body div) ≡ padded (body ++ div)
   unfolding decipheredText blocks
   reply-text =
       let z : length (cardReply hash body div) / 16 ≡ blocks = omega (arith, length-reply) in
-      ap (λ (n : ℕ). decrypted (invAes 4 hash) zeros n (cardReply hash body div)) z
-      ∙ decrypted-encrypted-aes 4 hash hh zeros (padded (body ++ div)) (zeros-bytes 16) text-bytes blocks text-blocks
+      ap (λ (n : ℕ). decrypted (invAesUnder hash) zeros n (cardReply hash body div)) z
+      ∙ decrypted-encrypted-aes (length hash / 4) hash hh zeros (padded (body ++ div)) (zeros-bytes 16) text-bytes blocks text-blocks
 
   -- with a work buffer that is shorter
   pub reply-short : length work < length (cardReply hash body div) → acceptedOf hash div len (cardReply hash body div) (length work) .number ≡ 19

@@ -47,10 +47,10 @@ fn decipher_into(hash: [u8; 16], response: &[u8], work: &mut [u8])
     requires { ⌜ (knownLength (length (now response)) ≡ true) × (length (now response) ≤ length (now work)) ⌝ }
     ensures { λ _. ⌜ now (work .exit) ≡ over (now (work .entry)) 0 (decipheredText hash (now (response .entry))) ⌝ }
 {
-    let w = aes::expand(hash);
+    let w = key_expansion::expand(&hash);
     octets::copy_at(work, 0, response);
     let n = response.len();
-    cbc::decipher(&hash, &w, [0u8; 16], &mut work[..n], 0);
+    cbc::decipher_under(&hash, &w, [0u8; 16], &mut work[..n], 0);
 }
 
 // The body's length in a text of t bytes that ends with DivData; 0: not authenticated.

@@ -1,6 +1,6 @@
 -- Writes one behind the other from the start of a buffer, as one: those of KeysHash's message, of STR2, of the data and of the command.
 -- Assumes nothing.
-use mathlib.Core.Path.{_≡_, refl, sym, ap, ap₂, _∙_}
+use mathlib.Core.Path.{_≡_, refl, sym, ap, _∙_}
 use mathlib.Core.List.{List, [], _∷_, _++_, append-assoc, append-nil}
 use Prim.Native.Nat.{ℕ, _+_, _*_, _/_, _%_}
 use native.Mathlib.Omega.{arith}
@@ -10,9 +10,9 @@ use borrow.Author.Tests.{le-leb}
 use borrow.Rule.Slice.PartMut.{putMid}
 use Rattle.octets.specs.Lists.{over, length-over}
 use Rattle.octets.specs.Writes.{take-over, over-behind}
-use Rattle.rounds.specs.Cipher.{cipher}
-use Rattle.aes.specs.KeyExpansion.{roundKeys}
-use Rattle.aes.specs.Aes.{aes}
+use Rattle.key_expansion.specs.Schedule.{fifteen}
+use Rattle.aes.specs.Aes.{aesUnder, cipherBy}
+use Rattle.aes.specs.Rows.{lent-aes}
 use Rattle.padding.specs.Method2.{blocksFor, padded, padBuffer}
 use Rattle.padding.specs.Laws.{length-padded}
 use Rattle.cbc.specs.Cbc.{encryptedWhole, zeros}
@@ -61,24 +61,29 @@ padded-over b s t ls lb =
     rw (le-leb (16 * blocksFor t) (length d) (omega arith), take-over b s t ls)
     (over-all d (padded s) (omega (arith, length-padded s, ap blocksFor ls)))
 
+-- one block under a key of sixteen bytes, by the first eleven rows of its expansion
+pub by-eleven : (key s : List ℕ) {w : List (List ℕ)} → length key ≡ 16 → w ≡ fifteen (length key / 4) key → cipherBy (take 11 w) s ≡ aesUnder key s
+by-eleven key s {w} l e =
+    let n : 11 ≡ length key / 4 + 7 = omega arith in
+    ap (λ (k : ℕ). cipherBy (take k w) s) n ∙ ap (λ (f : List ℕ → List ℕ). f s) (lent-aes key e)
+
 pub data-writes :
-    (key : List ℕ) (mode : OpModeId) (rnd2 payload hash b : List ℕ) {w : List (List ℕ)} {e₁ e₂ e₃ : List ℕ}
+    (key : List ℕ) (mode : OpModeId) (rnd2 payload hash b : List ℕ) {e₁ e₂ e₃ : List ℕ}
     → length rnd2 ≡ 16
     → length hash ≡ 16
     → length b ≡ lcOf (length payload)
-    → w ≡ roundKeys 4 key
     → e₁ ≡ over b 0 (str2 mode rnd2 payload hash)
     → e₂ ≡ padBuffer e₁ (34 + length payload)
-    → e₃ ≡ encryptedWhole (cipher 10 w) zeros e₂
+    → e₃ ≡ encryptedWhole (aesUnder key) zeros e₂
     → e₃ ≡ sealedData key mode rnd2 payload hash
 unfolding sealedData
-data-writes key mode rnd2 payload hash b lr lh lb qw q₁ q₂ q₃ =
+data-writes key mode rnd2 payload hash b lr lh lb q₁ q₂ q₃ =
     let s : List ℕ = str2 mode rnd2 payload hash in
     let ls : length s ≡ 34 + length payload = length-str2 mode rnd2 payload hash lr lh in
     q₃
-    ∙ ap₂ (λ (k : List (List ℕ)) (x : List ℕ). encryptedWhole (cipher 10 k) zeros x) qw
+    ∙ ap (encryptedWhole (aesUnder key) zeros)
     (q₂ ∙ ap (λ (x : List ℕ). padBuffer x (34 + length payload)) q₁ ∙ padded-over b s (34 + length payload) ls lb)
-    ∙ encrypted-all (aes 4 key) (sealedBlocks (length payload)) zeros (padded s) (length-padded s ∙ ap (λ (n : ℕ). 16 * blocksFor n) ls)
+    ∙ encrypted-all (aesUnder key) (sealedBlocks (length payload)) zeros (padded s) (length-padded s ∙ ap (λ (n : ℕ). 16 * blocksFor n) ls)
 
 pub command-writes :
     (lc : ℕ) (d out : List ℕ) {e₁ e₂ e₃ : List ℕ}

@@ -1,11 +1,11 @@
 -- Lengths of Seal's parts and command, Lc's range, and that who has the diversified key gets STR2 back. Assumes nothing.
 use mathlib.Core.Path.{_≡_, refl, ap, _∙_}
 use mathlib.Core.List.{List, [], _∷_, _++_}
-use Prim.Native.Nat.{ℕ, _+_, _≤_}
+use Prim.Native.Nat.{ℕ, _+_, _/_, _≤_}
 use native.Mathlib.Omega.{arith}
 use lib.ListN.{length, length-append}
 use Rattle.octets.specs.Lists.{length-part}
-use Rattle.aes.specs.Aes.{aes}
+use Rattle.aes.specs.Aes.{aesUnder}
 use Rattle.aes.specs.RoundTrip.{length-aes}
 use Rattle.sha_block.specs.Hash.{sha256, digestBytes}
 use Rattle.padding.specs.Method2.{padded}
@@ -28,7 +28,7 @@ length-str2 mode rnd2 payload hash lr lh = omega (arith, length-append rnd2 (pay
 
 pub length-sealedData : (key : List ℕ) (mode : OpModeId) (rnd2 payload hash : List ℕ) → length (sealedData key mode rnd2 payload hash) ≡ lcOf (length payload)
 unfolding sealedData
-length-sealedData key mode rnd2 payload hash = length-encrypted (aes 4 key) (length-aes 4 key) (sealedBlocks (length payload)) zeros (padded (str2 mode rnd2 payload hash))
+length-sealedData key mode rnd2 payload hash = length-encrypted (aesUnder key) (length-aes (length key / 4) key) (sealedBlocks (length payload)) zeros (padded (str2 mode rnd2 payload hash))
 
 pub length-command : (lc : ℕ) (d : List ℕ) → length (finalCommand lc d) ≡ length d + 6
 unfolding finalCommand

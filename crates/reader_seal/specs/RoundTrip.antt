@@ -9,7 +9,7 @@ use lib.Seq.{take-at}
 use Rattle.octets.specs.Bytes.{Bytes, Block}
 use Rattle.octets.specs.Lists.{part}
 use Rattle.octets.specs.ByteLists.{cons-bytes, append-bytes, zeros-bytes, take-bytes}
-use Rattle.aes.specs.Aes.{invAes}
+use Rattle.aes.specs.Aes.{invAesUnder}
 use Rattle.aes.specs.RoundTrip.{aes-block}
 use Rattle.sha_words.specs.Words.{wordBytes}
 use Rattle.sha_block.specs.Hash.{sha256, digestBytes, stateAfter}
@@ -57,7 +57,7 @@ str2-bytes mode rnd2 payload hash hm hr hp hh =
 -- what is deciphered under the diversified key: Lc bytes of the command, behind its first five
 abbrev pub decipheredData : List ℕ → List ℕ → List ℕ → List ℕ → OpModeId → List ℕ → List ℕ
 decipheredData fa div rnd1 rnd2 mode payload =
-    decrypted (invAes 4 (diversifiedBy fa div)) zeros (sealedBlocks (length payload)) (part (sealCommand fa div rnd1 rnd2 mode payload) 5 (lcOf (length payload)))
+    decrypted (invAesUnder (diversifiedBy fa div)) zeros (sealedBlocks (length payload)) (part (sealCommand fa div rnd1 rnd2 mode payload) 5 (lcOf (length payload)))
 
 module _ (fa div rnd1 rnd2 : List ℕ) (mode : OpModeId) (payload : List ℕ) (hf : Bytes fa) (hd : Block div) (hr : Block rnd2) (hm : mode .0 < 65536) (hp : Bytes payload) where
   text : List ℕ
@@ -73,7 +73,7 @@ module _ (fa div rnd1 rnd2 : List ℕ) (mode : OpModeId) (payload : List ℕ) (h
 
   key-bytes : Bytes (diversifiedBy fa div)
   unfolding diversifiedBy
-  key-bytes = aes-block 4 fa hf div hd .byte
+  key-bytes = aes-block (length fa / 4) fa hf div hd .byte
 
   pub deciphered-str2 : decipheredData fa div rnd1 rnd2 mode payload ≡ padded (str2 mode rnd2 payload (keysHashOf rnd1 rnd2))
   unfolding sealCommand finalCommand sealedData part text
@@ -81,8 +81,8 @@ module _ (fa div rnd1 rnd2 : List ℕ) (mode : OpModeId) (payload : List ℕ) (h
       let key : List ℕ = diversifiedBy fa div in
       let n : ℕ = sealedBlocks (length payload) in
       let d : List ℕ = sealedData key mode rnd2 payload (keysHashOf rnd1 rnd2) in
-      ap (decrypted (invAes 4 key) zeros n) (take-at d (0 ∷ []) (lcOf (length payload)) (length-sealedData key mode rnd2 payload (keysHashOf rnd1 rnd2)))
-      ∙ decrypted-encrypted-aes 4 key key-bytes zeros (padded text) (zeros-bytes 16) (padded-bytes text text-bytes) n
+      ap (decrypted (invAesUnder key) zeros n) (take-at d (0 ∷ []) (lcOf (length payload)) (length-sealedData key mode rnd2 payload (keysHashOf rnd1 rnd2)))
+      ∙ decrypted-encrypted-aes (length key / 4) key key-bytes zeros (padded text) (zeros-bytes 16) (padded-bytes text text-bytes) n
       (length-padded text ∙ ap (λ (k : ℕ). 16 * blocksFor k) length-text)
 
   -- unpadded, it is a text of 34 bytes and the payload's, and that text is STR2

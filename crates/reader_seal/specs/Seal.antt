@@ -5,7 +5,7 @@ use Prim.Native.Nat.{ℕ, _+_, _*_, _/_, _%_}
 use lib.Dec.{eqb, ltb}
 use lib.ListN.{length}
 use Rattle.octets.specs.Lists.{part, over}
-use Rattle.aes.specs.Aes.{aes}
+use Rattle.aes.specs.Aes.{aesUnder}
 use Rattle.sha_block.specs.Hash.{sha256}
 use Rattle.padding.specs.Method2.{blocksFor, padded}
 use Rattle.cbc.specs.Cbc.{encrypted, zeros}
@@ -18,7 +18,7 @@ keysHashOf rnd1 rnd2 = part (sha256 (rnd1 ++ rnd2)) 0 16
 
 -- the diversified key: DivData enciphered under FAKey
 unfoldable pub diversifiedBy : List ℕ → List ℕ → List ℕ
-diversifiedBy fa div = aes 4 fa div
+diversifiedBy fa div = aesUnder fa div
 
 -- "STR2 = OpModeID, RND2, payload of 0 to 205 bytes, KeysHash"
 unfoldable pub str2 : OpModeId → List ℕ → List ℕ → List ℕ → List ℕ
@@ -33,7 +33,7 @@ lcOf p = 16 * sealedBlocks p
 
 -- "padded, CBC under the diversified key", from sixteen zero bytes on
 unfoldable pub sealedData : List ℕ → OpModeId → List ℕ → List ℕ → List ℕ → List ℕ
-sealedData key mode rnd2 payload hash = encrypted (aes 4 key) zeros (sealedBlocks (length payload)) (padded (str2 mode rnd2 payload hash))
+sealedData key mode rnd2 payload hash = encrypted (aesUnder key) zeros (sealedBlocks (length payload)) (padded (str2 mode rnd2 payload hash))
 
 -- "framed as a final command": 00 86 00 00, Lc, the data, 00
 unfoldable pub finalCommand : ℕ → List ℕ → List ℕ

@@ -48,8 +48,8 @@ fn keys_hash(rnd1: [u8; 16], rnd2: [u8; 16]) -> [u8; 16]
 fn diversified(fa_key: [u8; 16], div: [u8; 16]) -> [u8; 16]
     ensures { λ r. ⌜ r ≡ diversifiedBy «fa_key» div ⌝ }
 {
-    let w = aes::expand(fa_key);
-    aes::encipher(&w, div)
+    let w = key_expansion::expand(&fa_key);
+    aes::encipher(&w[..11], div)
 }
 
 // STR2 from the start of a buffer.
@@ -76,10 +76,10 @@ fn write_data(
     requires { ⌜ length (now b) ≡ lcOf (length (now payload)) ⌝ }
     ensures { λ _. ⌜ now (b .exit) ≡ sealedData key mode rnd2 (now (payload .entry)) hash ⌝ }
 {
-    let w = aes::expand(key);
+    let w = key_expansion::expand(&key);
     write_str2(mode, rnd2, payload, hash, b);
     padding::pad(b, 34 + payload.len());
-    cbc::encipher(&key, &w, [0u8; 16], b, 0);
+    cbc::encipher_under(&key, &w, [0u8; 16], b, 0);
 }
 
 // The command from the start of the output: the data is made where it stands.

@@ -85,7 +85,7 @@ pub fn xor_block(a: [u8; 16], b: [u8; 16]) -> [u8; 16]
 }
 
 // The column whose byte i is the table's entry for byte i of the i-th word.
-fn looked_up(table: &[u8; 256], a: u32, b: u32, c: u32, d: u32) -> u32
+pub fn looked_up(table: &[u8; 256], a: u32, b: u32, c: u32, d: u32) -> u32
     ensures { λ r. ⌜ r ≡ word (getD (now (table .entry)) (byteAt a 0) 0) (getD (now (table .entry)) (byteAt b 1) 0) (getD (now (table .entry)) (byteAt c 2) 0) (getD (now (table .entry)) (byteAt d 3) 0) ⌝ }
 {
     column::word(

@@ -11,7 +11,7 @@ use Rattle.octets.specs.Bytes.{Bytes, Block}
 use Rattle.octets.specs.Lists.{part, over, length-part}
 use Rattle.octets.specs.Writes.{over-front}
 use Rattle.octets.specs.ByteLists.{part-bytes, zeros-bytes}
-use Rattle.aes.specs.Aes.{aes, invAes}
+use Rattle.aes.specs.Aes.{aesUnder, invAesUnder}
 use Rattle.aes.specs.RoundTrip.{aes-block}
 use Rattle.padding.specs.Method2.{blocksFor, padded, end, rightly, unpadded}
 use Rattle.padding.specs.Laws.{unpadded-lt, unpadded-whole, padded-unpadded}
@@ -95,25 +95,25 @@ module _ (c : Card) (d : List ℕ) (g : Stocked c) (hf : Bytes (faKeyOf c)) (hv 
 
   key-bytes : Bytes (diversified c)
   unfolding diversified
-  key-bytes = aes-block 4 (faKeyOf c) hf (c .«div_data») div-block .byte
+  key-bytes = aes-block (length (faKeyOf c) / 4) (faKeyOf c) hf (c .«div_data») div-block .byte
 
   length-data : length d ≡ 16 * blocksIn d
   length-data = omega (arith, six .whole)
 
   -- the text is what is deciphered, in front of zeros
-  plain-is : decipheredText c d ≡ decrypted (invAes 4 (diversified c)) zeros (blocksIn d) d
+  plain-is : decipheredText c d ≡ decrypted (invAesUnder (diversified c)) zeros (blocksIn d) d
   unfolding decipheredText textOf
   plain-is =
-      over-part (replicate 240 0) (decrypted (invAes 4 (diversified c)) zeros (blocksIn d) d) (16 * blocksIn d)
-      (length-decrypted (invAes 4 (diversified c)) (blocksIn d) zeros d)
+      over-part (replicate 240 0) (decrypted (invAesUnder (diversified c)) zeros (blocksIn d) d) (16 * blocksIn d)
+      (length-decrypted (invAesUnder (diversified c)) (blocksIn d) zeros d)
 
   length-plain : length (decipheredText c d) ≡ 16 * blocksIn d
-  length-plain = ap length plain-is ∙ length-decrypted (invAes 4 (diversified c)) (blocksIn d) zeros d
+  length-plain = ap length plain-is ∙ length-decrypted (invAesUnder (diversified c)) (blocksIn d) zeros d
 
   plain-bytes : Bytes (decipheredText c d)
   plain-bytes =
       rw plain-is
-      (decrypted-bytes (aes 4 (diversified c)) (invAes 4 (diversified c)) (aes-cipher 4 (diversified c) key-bytes) zeros d (zeros-bytes 16) hd (blocksIn d)
+      (decrypted-bytes (aesUnder (diversified c)) (invAesUnder (diversified c)) (aes-cipher (length (diversified c) / 4) (diversified c) key-bytes) zeros d (zeros-bytes 16) hd (blocksIn d)
       (omega (arith, length-data)))
 
   text-front : textOf c d ≡ decipheredText c d ++ drop (length (decipheredText c d)) (replicate 240 0)
@@ -173,9 +173,9 @@ module _ (c : Card) (d : List ℕ) (g : Stocked c) (hf : Bytes (faKeyOf c)) (hv 
   sealed-again : sealedData (diversified c) (modeIn c d) (rnd2In c d) (payloadIn c d) (keysHash c d) ≡ d
   unfolding sealedData
   sealed-again =
-      ap₂ (λ (n : ℕ) (t : List ℕ). encrypted (aes 4 (diversified c)) zeros n t) blocks-is
+      ap₂ (λ (n : ℕ) (t : List ℕ). encrypted (aesUnder (diversified c)) zeros n t) blocks-is
       (ap padded str2-is ∙ padded-unpadded (decipheredText c d) size text-is ∙ plain-is)
-      ∙ encrypted-decrypted-aes 4 (diversified c) key-bytes zeros d (zeros-bytes 16) hd (blocksIn d) length-data
+      ∙ encrypted-decrypted-aes (length (diversified c) / 4) (diversified c) key-bytes zeros d (zeros-bytes 16) hd (blocksIn d) length-data
 
   hash-is : keysHash c d ≡ keysHashOf (rnd1Of c) (rnd2In c d)
   unfolding keysHash keysHashOf hashedOf

@@ -9,7 +9,7 @@ use lib.Dec.{ltb}
 use lib.ListN.{length, drop, replicate, length-append}
 use Rattle.octets.specs.Lists.{part, over, length-part}
 use Rattle.octets.specs.Writes.{over-front}
-use Rattle.aes.specs.Aes.{aes}
+use Rattle.aes.specs.Aes.{aesUnder}
 use Rattle.padding.specs.Method2.{blocksFor, padded}
 use Rattle.padding.specs.Laws.{length-padded}
 use Rattle.cbc.specs.Cbc.{encrypted, zeros}
@@ -30,9 +30,9 @@ record-whole area m h = ap (part area (m .start)) (least-is (m .len) 64 (ltb (m 
 encrypted-over : (ciph : List ℕ → List ℕ) (b s : List ℕ) (n : ℕ) → length s ≡ 16 * n → encrypted ciph zeros n (over b 0 s) ≡ encrypted ciph zeros n s
 encrypted-over ciph b s n e = ap (encrypted ciph zeros n) (over-front b s) ∙ encrypted-front ciph n zeros s (drop (length s) b) (omega arith)
 
-pub bytes-by : (key key′ : List ℕ) (n m : ℕ) (s t : List ℕ) → key ≡ key′ → n ≡ m → s ≡ t → encrypted (aes 4 key) zeros n s ≡ encrypted (aes 4 key′) zeros m t
+pub bytes-by : (key key′ : List ℕ) (n m : ℕ) (s t : List ℕ) → key ≡ key′ → n ≡ m → s ≡ t → encrypted (aesUnder key) zeros n s ≡ encrypted (aesUnder key′) zeros m t
 bytes-by key key′ n m s t p q r =
-    ap (λ (x : List ℕ). encrypted (aes 4 x) zeros n s) p ∙ ap₂ (λ (x : ℕ) (y : List ℕ). encrypted (aes 4 key′) zeros x y) q r
+    ap (λ (x : List ℕ). encrypted (aesUnder x) zeros n s) p ∙ ap₂ (λ (x : ℕ) (y : List ℕ). encrypted (aesUnder key′) zeros x y) q r
 
 -- the slot of the mode that the deciphered text names, and its record: "start and length in a record area"
 abbrev pub namedSlot : Card → List ℕ → ModeSlot
@@ -71,12 +71,12 @@ textBy c d fresh = replyText (acceptsFinal c d) (c .area) (namedSlot c d) (c .«
 
 -- a reply whose key and text are known, the text of B blocks
 reply-by : (c : Card) (d fresh key text : List ℕ) → Stocked c → replyKey c d ≡ key → textBy c d fresh ≡ text → length text ≡ 16 * c .«reply_size» →
-    finalReply c d fresh .bytes ≡ encrypted (aes 4 key) zeros (c .«reply_size») text
+    finalReply c d fresh .bytes ≡ encrypted (aesUnder key) zeros (c .«reply_size») text
 unfolding finalReply finalBytes replyBuffer
 reply-by c d fresh key text g p q l =
     bytes-by (replyKey c d) key (sizeOf c) (c .«reply_size») (replyBuffer c d fresh) (over (replicate 96 0) 0 text) p (size-loaded c (g .size-most))
     (ap (over (replicate 96 0) 0) q)
-    ∙ encrypted-over (aes 4 key) (replicate 96 0) text (c .«reply_size») l
+    ∙ encrypted-over (aesUnder key) (replicate 96 0) text (c .«reply_size») l
 
 -- "Then the reply is record, DivData and padding under KeysHash by CBC." T-01: "A shorter record is followed by a payload of zero bytes"
 pub record AcceptedReply (c : Card) (d fresh : List ℕ) : Type 0 where
@@ -88,7 +88,7 @@ pub record AcceptedReply (c : Card) (d fresh : List ℕ) : Type 0 where
   -- "encipher B blocks": body, DivData and padding are B blocks, and nothing else stands there
   pub fills : length (padded (namedBody c d ++ c .«div_data»)) ≡ 16 * c .«reply_size»
   -- "record", its payload, "DivData and padding under KeysHash by CBC"
-  pub replied : finalReply c d fresh .bytes ≡ encrypted (aes 4 (keysHash c d)) zeros (c .«reply_size») (padded (namedBody c d ++ c .«div_data»))
+  pub replied : finalReply c d fresh .bytes ≡ encrypted (aesUnder (keysHash c d)) zeros (c .«reply_size») (padded (namedBody c d ++ c .«div_data»))
 
 module _ (c : Card) (d fresh : List ℕ) (g : Stocked c) where
   module _ (e : acceptsFinal c d ≡ true) where
@@ -125,7 +125,7 @@ module _ (c : Card) (d fresh : List ℕ) (g : Stocked c) where
     unfolding replyText
     text-refused = rw (e, size-loaded c (g .size-most))
 
-    pub refused-reply : finalReply c d fresh .bytes ≡ encrypted (aes 4 (c .«shill_key»)) zeros (c .«reply_size») (part fresh 0 (16 * c .«reply_size»))
+    pub refused-reply : finalReply c d fresh .bytes ≡ encrypted (aesUnder (c .«shill_key»)) zeros (c .«reply_size») (part fresh 0 (16 * c .«reply_size»))
     refused-reply =
         reply-by c d fresh (c .«shill_key») (part fresh 0 (16 * c .«reply_size»)) g key-refused text-refused
         (length-part fresh 0 (16 * c .«reply_size») (omega (arith, g .size-most)))

@@ -4,7 +4,7 @@ use mathlib.Core.List.{List, _++_}
 use Prim.Native.Nat.{ℕ, _+_, _<_}
 use native.Mathlib.Omega.{arith}
 use lib.ListN.{length}
-use Rattle.aes.specs.Aes.{aes}
+use Rattle.aes.specs.Aes.{aesUnder}
 use Rattle.padding.specs.Method2.{blocksFor, padded}
 use Rattle.cbc.specs.Cbc.{encrypted, zeros}
 use Rattle.plaid_types.specs.declared.KeySetId.{KeySetId}
@@ -49,7 +49,7 @@ module _ (c : Card) (i : KeySetId) (fa r1 r2 : List ℕ) (mode : OpModeId) (payl
   -- the reply is the mode's body and DivData, padded, by CBC under KeysHash
   pub seal-reply : (fresh : List ℕ) →
       finalReply c (sealed c fa r1 r2 mode payload) fresh .bytes ≡
-      encrypted (aes 4 (keysHashOf r1 r2)) zeros (blocksFor (length (sealedBody c mode) + 16)) (padded (sealedBody c mode ++ c .«div_data»))
+      encrypted (aesUnder (keysHashOf r1 r2)) zeros (blocksFor (length (sealedBody c mode) + 16)) (padded (sealedBody c mode ++ c .«div_data»))
   seal-reply fresh =
       let d : List ℕ = sealed c fa r1 r2 mode payload in
       accepted-reply c d fresh g (seal-accepted c i fa r1 r2 mode payload k h) .replied

@@ -8,7 +8,7 @@ use native.Mathlib.Omega.{arith}
 use lib.ListN.{length, getD, replicate}
 use Rattle.octets.specs.Bytes.{Bytes, Block}
 use Rattle.octets.specs.Lists.{part, over}
-use Rattle.aes.specs.Aes.{aes, invAes}
+use Rattle.aes.specs.Aes.{aesUnder, invAesUnder}
 use Rattle.sha_block.specs.Hash.{sha256}
 use Rattle.padding.specs.Method2.{blocksFor, padded}
 use Rattle.padding.specs.Laws.{length-padded}
@@ -47,7 +47,7 @@ sealedText r1 r2 mode payload = str2 mode r2 payload (keysHashOf r1 r2)
 module _ (c : Card) (i : KeySetId) (fa r1 r2 : List ℕ) (mode : OpModeId) (payload : List ℕ) (k : SharedSession c i fa r1 r2 mode payload) where
   key-same : diversified c ≡ diversifiedBy fa (c .«div_data»)
   unfolding diversified diversifiedBy
-  key-same = ap (λ (x : List ℕ). aes 4 x (c .«div_data»)) (k .same-key)
+  key-same = ap (λ (x : List ℕ). aesUnder x (c .«div_data»)) (k .same-key)
 
   rnd1-same : rnd1Of c ≡ r1
   unfolding rnd1Of
@@ -65,10 +65,10 @@ module _ (c : Card) (i : KeySetId) (fa r1 r2 : List ℕ) (mode : OpModeId) (payl
       ap (part (sealCommand fa (c .«div_data») r1 r2 mode payload) 5) (omega (arith, length-sealCommand fa (c .«div_data») r1 r2 mode payload))
 
   decrypted-same : (key s t : List ℕ) (n m : ℕ) → key ≡ diversifiedBy fa (c .«div_data») → n ≡ m → s ≡ t →
-      decrypted (invAes 4 key) zeros n s ≡ decrypted (invAes 4 (diversifiedBy fa (c .«div_data»))) zeros m t
+      decrypted (invAesUnder key) zeros n s ≡ decrypted (invAesUnder (diversifiedBy fa (c .«div_data»))) zeros m t
   decrypted-same key s t n m p q r =
-      ap (λ (x : List ℕ). decrypted (invAes 4 x) zeros n s) p
-      ∙ ap₂ (λ (x : ℕ) (y : List ℕ). decrypted (invAes 4 (diversifiedBy fa (c .«div_data»))) zeros x y) q r
+      ap (λ (x : List ℕ). decrypted (invAesUnder x) zeros n s) p
+      ∙ ap₂ (λ (x : ℕ) (y : List ℕ). decrypted (invAesUnder (diversifiedBy fa (c .«div_data»))) zeros x y) q r
 
   -- the 240 bytes are the padded STR2 and zeros
   pub seal-text : textOf c (sealed c fa r1 r2 mode payload) ≡ over (replicate 240 0) 0 (padded (sealedText r1 r2 mode payload))

@@ -3,17 +3,18 @@ use mathlib.Core.Bool.{Bool, true, cond, _&&_}
 use mathlib.Core.List.{List, [], _∷_, _++_, flatten}
 use Prim.Native.Nat.{ℕ, suc, _/_, _%_}
 use lib.Dec.{eqb}
+use lib.ListN.{length}
 use Rattle.octets.specs.Lists.{table}
-use Rattle.aes.specs.KeyExpansion.{roundKeys}
+use Rattle.key_expansion.specs.KeyExpansion.{roundKeys}
 use Rattle.sha_padding.specs.Parsing.{blocks, blockAt}
 use Rattle.sha_block.specs.Hash.{stateAfter, digestBytes}
 use Rattle.work.specs.Steps.{Step, comparison, expansion, hashBlock}
 use Rattle.plaid_types.specs.declared.KeySetId.{KeySetId}
 use Rattle.plaid_types.specs.declared.OpModeId.{OpModeId}
 
--- "An expansion has the key, no input, and the round keys as output."
+-- "An expansion has the key, no input, and the round keys as output", of a key of 4 Nk bytes
 abbrev pub expansionStep : List ℕ → Step
-expansionStep k = record { kind = expansion; key = k; input = []; output = flatten (roundKeys 4 k) }
+expansionStep k = record { kind = expansion; key = k; input = []; output = flatten (roundKeys (length k / 4) k) }
 
 -- "A hash block has no key, its 64 bytes as input, and the 32 bytes of state after it as output." The block that has i before it
 abbrev pub hashStep : List ℕ → ℕ → Step

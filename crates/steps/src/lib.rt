@@ -2,9 +2,13 @@
 use plaid_types::KeySetId;
 use plaid_types::OpModeId;
 ghost use mathlib.Core.Path.{_≡_};
+ghost use mathlib.Core.Bool.{true};
 ghost use mathlib.Core.List.{[], _∷_};
+ghost use Prim.Native.Nat.{_/_};
+ghost use lib.ListN.{length};
 ghost use Rattle.work.specs.Steps.{comparison, expansion, hashBlock, mixedAll, sumFrom, counted};
-ghost use Rattle.aes.specs.KeyExpansion.{roundKeys};
+ghost use Rattle.key_expansion.specs.KeyLength.{keyLength};
+ghost use Rattle.key_expansion.specs.Schedule.{fifteen};
 ghost use Rattle.sha_block.specs.Hash.{sha256};
 ghost use Rattle.steps.specs.Made.{
   expansionStep,
@@ -21,13 +25,13 @@ ghost use Rattle.steps.specs.Made.{
 };
 
 pub struct Expanded {
-    pub rows: [[u8; 16]; 11],
+    pub rows: [[u8; 16]; 15],
     pub count: usize,
     pub sum: u32,
 }
 
 // The three as one value. By itself, so that only this one and round_keys are proved by hand.
-fn together(rows: [[u8; 16]; 11], count: usize, sum: u32) -> Expanded
+fn together(rows: [[u8; 16]; 15], count: usize, sum: u32) -> Expanded
     ensures { λ r. ⌜ r ≡ record { rows = rows; count = count; sum = sum } ⌝ }
 {
     Expanded {
@@ -38,20 +42,22 @@ fn together(rows: [[u8; 16]; 11], count: usize, sum: u32) -> Expanded
 }
 
 // The round keys of an expansion.
-pub fn round_keys(e: Expanded) -> [[u8; 16]; 11]
+pub fn round_keys(e: Expanded) -> [[u8; 16]; 15]
     ensures { λ r. ⌜ r ≡ e .rows ⌝ }
 {
     e.rows
 }
 
-// Expands a key.
-pub fn expand(key: [u8; 16], sum: u32) -> Expanded
-    ensures { λ r. ⌜ r ≡ record { rows = roundKeys 4 key; count = counted expansion (expansionStep key ∷ []); sum = sumFrom sum (expansionStep key ∷ []) } ⌝ }
+// Expands a key. The work sum has the round keys alone, not the zeros behind them.
+pub fn expand(key: &[u8], sum: u32) -> Expanded
+    requires { ⌜ keyLength (length (now key)) ≡ true ⌝ }
+    ensures { λ r. ⌜ r ≡ record { rows = fifteen (length (now (key .entry)) / 4) (now (key .entry)); count = counted expansion (expansionStep (now (key .entry)) ∷ []); sum = sumFrom sum (expansionStep (now (key .entry)) ∷ []) } ⌝ }
 {
-    let rows = aes::expand(key);
+    let rows = key_expansion::expand(key);
+    let n = key.len() / 4 + 7;
     let a = work::mix(sum, 4);
-    let b = work::mix_block(a, key);
-    let c = work::mix_rows(b, &rows);
+    let b = work::mix_all(a, key);
+    let c = work::mix_rows(b, &rows[..n]);
     together(rows, 1, c)
 }
 

@@ -135,14 +135,13 @@ pub fn mix_cipher(s: u32, kind: u8, key: Prepared, input: [u8; 16], output: [u8;
 }
 
 // Round keys, an expansion's output: the rows one behind the other.
-pub fn mix_rows(s: u32, rows: &[[u8; 16]; 11]) -> u32
+pub fn mix_rows(s: u32, rows: &[[u8; 16]]) -> u32
     ensures { λ r. ⌜ r ≡ mixedAll s (flatten (now (rows .entry))) ⌝ }
 {
-    let list = &rows[..];
     let mut sum = s;
     let mut row = 0;
-    while row < list.len() {
-        sum = mix_block(sum, list[row]);
+    while row < rows.len() {
+        sum = mix_block(sum, rows[row]);
         row += 1;
     }
     sum

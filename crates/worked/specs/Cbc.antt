@@ -6,7 +6,7 @@ use Rattle.field.specs.Matrix.{rowTimes}
 use Rattle.sbox.specs.SubBytes.{sbox}
 use Rattle.rounds.specs.Cipher.{round, rounds, lastRound, cipher}
 use Rattle.aes.specs.Aes.{aes}
-use Rattle.aes.specs.KeyExpansion.{power, temp, words, roundKey}
+use Rattle.key_expansion.specs.KeyExpansion.{power, temp, words, roundKey}
 use Rattle.cbc.specs.Cbc.{_⊕_, encrypted}
 use Rattle.worked.specs.Fips197.{key}
 

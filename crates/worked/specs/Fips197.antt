@@ -7,7 +7,7 @@ use Rattle.field.specs.Matrix.{rowTimes}
 use Rattle.sbox.specs.SubBytes.{sbox}
 use Rattle.rounds.specs.Cipher.{round, rounds, lastRound, cipher}
 use Rattle.aes.specs.Aes.{aes}
-use Rattle.aes.specs.KeyExpansion.{power, temp, words, roundKey, roundKeys}
+use Rattle.key_expansion.specs.KeyExpansion.{power, temp, words, roundKey, roundKeys}
 
 -- the key of both: 2b 7e 15 16 28 ae d2 a6 ab f7 15 88 09 cf 4f 3c
 unfoldable pub key : List ℕ

@@ -2,7 +2,7 @@
 use Prim.Native.Nat.{ℕ, suc, _-_, _≤_}
 use mathlib.Core.Path.{_≡_, refl, ap, _∙_, sym}
 use mathlib.Core.List.{List, []}
-use lib.ListN.{getD}
+use lib.ListN.{length, getD}
 use native.Mathlib.Omega.{arith}
 use Rattle.rounds.specs.Columns.{stateOf}
 use Rattle.rounds.specs.Cipher.{addRoundKey}
@@ -12,37 +12,43 @@ use Rattle.aes.proofs.decipher.Statement.{statement}
 use Rattle.aes.proofs.decipher.Tie as tie
 
 abbrev Inv-loop : tie.InvT-loop
-Inv-loop w table t₀ i₀ t i = (i ≤ 9) × (invRounds w i (stateOf t) ≡ invRounds w 9 (stateOf t₀))
+Inv-loop w table last t₀ i₀ t i = (1 ≤ i) × (i ≤ last) × (invRounds w (i - 1) (stateOf t) ≡ invRounds w (last - 1) (stateOf t₀))
 
 abbrev μ-loop : tie.MeasureT-loop
-μ-loop w table t₀ i₀ t i = i
+μ-loop w table last t₀ i₀ t i = i
 
 inv-byte-table-requires : tie.Need-inv-byte-table-requires Inv-loop μ-loop
 inv-byte-table-requires c κs = search needs
 
+sub-last : tie.Need-sub-last Inv-loop μ-loop
+sub-last c = search needs
+
 columns-of-requires : tie.Need-columns-of-requires Inv-loop μ-loop
 columns-of-requires c κs = search needs
 
-element-copy-out-add-round-key : tie.Need-element-copy-out-add-round-key Inv-loop μ-loop
-element-copy-out-add-round-key c = search needs
+mul-add-round-key : tie.Need-mul-add-round-key Inv-loop μ-loop
+mul-add-round-key c = search needs
+
+shared-slice-copy-out-add-round-key : tie.Need-shared-slice-copy-out-add-round-key Inv-loop μ-loop
+shared-slice-copy-out-add-round-key c = search needs
 
 add-round-key-requires : tie.Need-add-round-key-requires Inv-loop μ-loop
 add-round-key-requires c κs = search needs
 
 loop-holds : tie.Need-loop-holds Inv-loop μ-loop
-loop-holds c = (search needs, refl)
+loop-holds c = (search needs, search needs, refl)
+
+sub-i : tie.Need-sub-i Inv-loop μ-loop
+sub-i c = search needs
 
 mul-inv-round : tie.Need-mul-inv-round Inv-loop μ-loop
 mul-inv-round c = search needs
 
-element-copy-out-inv-round : tie.Need-element-copy-out-inv-round Inv-loop μ-loop
-element-copy-out-inv-round c = search needs
+shared-slice-copy-out-inv-round : tie.Need-shared-slice-copy-out-inv-round Inv-loop μ-loop
+shared-slice-copy-out-inv-round c = search needs
 
 inv-round-requires : tie.Need-inv-round-requires Inv-loop μ-loop
 inv-round-requires c κs = c .before .before .before .before .before .before .before .inv-byte-table .ensures
-
-sub-i : tie.Need-sub-i Inv-loop μ-loop
-sub-i c = search needs
 
 loop-less : tie.Need-loop-less Inv-loop μ-loop
 loop-less c = search needs
@@ -52,15 +58,16 @@ unfolding invRounds
 loop-again c =
     let l = c .before .before .before .before .loop in
     let w = c .before .before .before .before .before .before .before .before .before .args .w .now in
-    let e : l .i ≡ suc (l .i - 1) = omega arith in (
+    let e : l .i - 1 ≡ suc (l .i - 1 - 1) = omega arith in (
       omega arith,
-      ap (invRounds w (l .i - 1)) (c .inv-round .ensures ∙ ap (λ (n : ℕ). invRound (stateOf (l .t)) (getD w n [])) e)
+      omega arith,
+      ap (invRounds w (l .i - 1 - 1)) (c .inv-round .ensures ∙ ap (λ (n : ℕ). invRound (stateOf (l .t)) (getD w n [])) e)
           ∙ ap (λ (n : ℕ). invRounds w n (stateOf (l .t))) (sym e)
-          ∙ l .inv .1,
+          ∙ l .inv .2,
     )
 
-element-copy-out-inv-last-round : tie.Need-element-copy-out-inv-last-round Inv-loop μ-loop
-element-copy-out-inv-last-round c = search needs
+shared-slice-copy-out-inv-last-round : tie.Need-shared-slice-copy-out-inv-last-round Inv-loop μ-loop
+shared-slice-copy-out-inv-last-round c = search needs
 
 inv-last-round-requires : tie.Need-inv-last-round-requires Inv-loop μ-loop
 inv-last-round-requires c κs = c .before .before .before .before .before .before .before .inv-byte-table .ensures
@@ -74,13 +81,13 @@ returns c =
     let w = c .before .before .before .before .before .before .before .before .before .before .args .w .now in
     let l = c .before .before .before .before .before .loop in
     let a = c .before .before .before .before .before .before in
-    let none : 0 ≡ l .i = omega arith in
-    let first : stateOf (a .add-round-key .result) ≡ addRoundKey (c .before .before .before .before .before .before .before .before .before .before .args .s) (getD w 10 []) =
-    a .add-round-key .ensures ∙ ap (λ (x : List ℕ). addRoundKey x (getD w 10 [])) (a .before .before .columns-of .ensures) in
+    let none : 0 ≡ l .i - 1 = omega arith in
+    let first : stateOf (a .add-round-key .result) ≡ addRoundKey (c .before .before .before .before .before .before .before .before .before .before .args .s) (getD w (length w - 1) []) =
+    a .add-round-key .ensures ∙ ap (λ (x : List ℕ). addRoundKey x (getD w (length w - 1) [])) (a .before .before .columns-of .ensures) in
     c .bytes-of .ensures
     ∙ c .before .inv-last-round .ensures
     ∙ ap (λ (x : List ℕ). invLastRound x (getD w 0 []))
-    (ap (λ (n : ℕ). invRounds w n (stateOf (l .t))) none ∙ l .inv .1 ∙ ap (invRounds w 9) first)
+    (ap (λ (n : ℕ). invRounds w n (stateOf (l .t))) none ∙ l .inv .2 ∙ ap (invRounds w (length w - 1 - 1)) first)
 
 pub decipher-spec : {M : Type 1} → statement M
 decipher-spec =
@@ -89,17 +96,19 @@ decipher-spec =
     Inv-loop
     μ-loop
     inv-byte-table-requires
+    sub-last
     columns-of-requires
-    element-copy-out-add-round-key
+    mul-add-round-key
+    shared-slice-copy-out-add-round-key
     add-round-key-requires
     loop-holds
-    mul-inv-round
-    element-copy-out-inv-round
-    inv-round-requires
     sub-i
+    mul-inv-round
+    shared-slice-copy-out-inv-round
+    inv-round-requires
     loop-less
     loop-again
-    element-copy-out-inv-last-round
+    shared-slice-copy-out-inv-last-round
     inv-last-round-requires
     bytes-of-requires
     returns)

@@ -7,10 +7,10 @@ use Rattle.aes_vectors.proofs.records.Statement.{statement}
 use Rattle.aes_vectors.proofs.records.Tie as tie
 
 abbrev Inv-loop : tie.InvT-loop
-Inv-loop name s is-chained tally₀ section₀ i₀ t8 tally section i = Unit {0}
+Inv-loop name s kind tally₀ section₀ i₀ t8 tally section i = Unit {0}
 
 abbrev μ-loop : tie.MeasureT-loop
-μ-loop name s is-chained tally₀ section₀ i₀ t8 tally section i = length s - i
+μ-loop name s kind tally₀ section₀ i₀ t8 tally section i = length s - i
 
 none-requires : tie.Need-none-requires Inv-loop μ-loop
 none-requires c κs = search needs

@@ -6,7 +6,7 @@ use native.Mathlib.Nat.{sub-zero}
 use native.Mathlib.Omega.{arith}
 use borrow.Author.Needs.{needs}
 use lib.ListN.{length, take, drop}
-use Rattle.rounds.specs.InvCipher.{invCipher}
+use Rattle.aes.specs.Aes.{invCipherBy}
 use Rattle.work.specs.Steps.{sumFrom}
 use Rattle.work.specs.Weights.{prepared-step}
 use Rattle.cbc.specs.Cbc.{_⊕_}
@@ -21,8 +21,8 @@ abbrev Inv-loop : tie.InvT-loop
 Inv-loop key w text₀ sum blocks shown previous₀ count₀ after₀ text previous count after =
     (length text ≡ length text₀)
     × (count ≤ blocks)
-    × (take (16 * count) text ++ whole (unlink (invCipher 10 w)) taken previous (drop (16 * count) text) ≡ whole (unlink (invCipher 10 w)) taken previous₀ text₀)
-    × (sumFrom after (deciphered key (invCipher 10 w) (blocks - count) (drop (16 * count) text)) ≡ sumFrom sum (deciphered key (invCipher 10 w) blocks text₀))
+    × (take (16 * count) text ++ whole (unlink (invCipherBy w)) taken previous (drop (16 * count) text) ≡ whole (unlink (invCipherBy w)) taken previous₀ text₀)
+    × (sumFrom after (deciphered key (invCipherBy w) (blocks - count) (drop (16 * count) text)) ≡ sumFrom sum (deciphered key (invCipherBy w) blocks text₀))
 
 abbrev μ-loop : tie.MeasureT-loop
 μ-loop key w text₀ sum blocks shown previous₀ count₀ after₀ text previous count after = blocks - count
@@ -60,7 +60,7 @@ loop-again c =
     let l = b .before .before .before .before in
     let q = l .loop .inv in
     let a = l .before .before .before .before .args in
-    let f = invCipher 10 (a .w .now) in
+    let f = invCipherBy (a .w .now) in
     let summed = prepared-step (l .loop .after) (decipherStep (a .key .now) f (b .before .block-at .result)) (l .before .prepare .ensures) in
     let step = b .decipher-block in
     let x = b .before .block-at .ensures in
@@ -85,7 +85,7 @@ returns : tie.Need-returns Inv-loop μ-loop
 returns c =
     let l = c .before .loop in
     let a = c .before .before .before .before .before .args in
-    let f = invCipher 10 (a .w .now) in (
+    let f = invCipherBy (a .w .now) in (
       deciphered-done _ f _ _ (length (a .text .now) / 16) (l .count) _ _ (omega arith) (l .inv .3),
       text-done (unlink f) taken (l .previous) (l .text) _ (16 * l .count) (omega arith) (l .inv .2) ∙ sym (decrypted-whole f (a .start) (a .text .now)),
     )

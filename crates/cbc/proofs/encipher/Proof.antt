@@ -6,7 +6,7 @@ use native.Mathlib.Nat.{sub-zero}
 use native.Mathlib.Omega.{arith}
 use borrow.Author.Needs.{needs}
 use lib.ListN.{length, take, drop}
-use Rattle.rounds.specs.Cipher.{cipher}
+use Rattle.aes.specs.Aes.{cipherBy}
 use Rattle.work.specs.Steps.{sumFrom}
 use Rattle.work.specs.Weights.{prepared-step}
 use Rattle.cbc.specs.Cbc.{_⊕_}
@@ -21,8 +21,8 @@ abbrev Inv-loop : tie.InvT-loop
 Inv-loop key w text₀ sum blocks shown chained₀ count₀ after₀ text chained count after =
     (length text ≡ length text₀)
     × (count ≤ blocks)
-    × (take (16 * count) text ++ whole (link (cipher 10 w)) (link (cipher 10 w)) chained (drop (16 * count) text) ≡ whole (link (cipher 10 w)) (link (cipher 10 w)) chained₀ text₀)
-    × (sumFrom after (enciphered key (cipher 10 w) chained (blocks - count) (drop (16 * count) text)) ≡ sumFrom sum (enciphered key (cipher 10 w) chained₀ blocks text₀))
+    × (take (16 * count) text ++ whole (link (cipherBy w)) (link (cipherBy w)) chained (drop (16 * count) text) ≡ whole (link (cipherBy w)) (link (cipherBy w)) chained₀ text₀)
+    × (sumFrom after (enciphered key (cipherBy w) chained (blocks - count) (drop (16 * count) text)) ≡ sumFrom sum (enciphered key (cipherBy w) chained₀ blocks text₀))
 
 abbrev μ-loop : tie.MeasureT-loop
 μ-loop key w text₀ sum blocks shown chained₀ count₀ after₀ text chained count after = blocks - count
@@ -60,7 +60,7 @@ loop-again c =
     let l = b .before .before .before .before in
     let q = l .loop .inv in
     let a = l .before .before .before .before .args in
-    let f = cipher 10 (a .w .now) in
+    let f = cipherBy (a .w .now) in
     let summed = prepared-step (l .loop .after) (encipherStep (a .key .now) f (b .before .block-at .result ⊕ l .loop .chained)) (l .before .prepare .ensures) in
     let step = b .encipher-block in
     let x = ap (λ p. p ⊕ l .loop .chained) (b .before .block-at .ensures) in
@@ -85,7 +85,7 @@ returns : tie.Need-returns Inv-loop μ-loop
 returns c =
     let l = c .before .loop in
     let a = c .before .before .before .before .before .args in
-    let f = cipher 10 (a .w .now) in (
+    let f = cipherBy (a .w .now) in (
       enciphered-done _ f _ _ (length (a .text .now) / 16) (l .count) _ _ (omega arith) _ _ (l .inv .3),
       text-done (link f) (link f) (l .chained) (l .text) _ (16 * l .count) (omega arith) (l .inv .2) ∙ sym (encrypted-whole f (a .start) (a .text .now)),
     )

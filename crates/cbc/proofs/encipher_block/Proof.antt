@@ -1,7 +1,7 @@
 -- `encipher_block` meets its contract, by those of its calls. Assumes nothing.
 use mathlib.Core.Path.{refl, ap, ap₂, _∙_}
 use borrow.Author.Needs.{needs}
-use Rattle.rounds.specs.Cipher.{cipher}
+use Rattle.aes.specs.Aes.{cipherBy}
 use Rattle.work.specs.Steps.{encipherment, mixed, mixedAll}
 use Rattle.work.specs.Weights.{mixedPrepared}
 use Rattle.cbc.specs.Cbc.{_⊕_}
@@ -26,7 +26,7 @@ returns c =
     let b = c .before in
     let w = b .before .before .args .w .now in
     let x = b .before .xor-block .ensures in
-    let y = b .encipher .ensures ∙ ap (cipher 10 w) x in
+    let y = b .encipher .ensures ∙ ap (cipherBy w) x in
     let a = b .before .before .args in
     (y, refl, c .mix-cipher .ensures ∙ ap₂ (λ i o. mixedAll (mixedAll (mixedPrepared (mixed (a .sum) encipherment) (a .key)) i) o) x y)
 

@@ -5,7 +5,8 @@ use native.Mathlib.Omega.{arith}
 use borrow.Author.Needs.{needs}
 use lib.Seq.{length-take-le}
 use lib.ListN.{length, replicate}
-use Rattle.rounds.specs.InvCipher.{invCipher}
+use Rattle.key_expansion.specs.KeyLength.{length-sixteen}
+use Rattle.aes.specs.Aes.{invAesUnder}
 use Rattle.final_command.proofs.Assembly.{deciphered-same}
 use Rattle.final_command.proofs.decipher.Statement.{statement}
 use Rattle.final_command.proofs.decipher.Tie as tie
@@ -24,24 +25,24 @@ copy-at-requires c κs =
     let d = c .before .before .before .args .d .now in
     omega (arith, length-take-le (16 * (length d / 16)) d (omega arith))
 
-slice-aggregate-decipher : tie.Need-slice-aggregate-decipher
-slice-aggregate-decipher c = search needs
+slice-aggregate-decipher-under : tie.Need-slice-aggregate-decipher-under
+slice-aggregate-decipher-under c = search needs
 
 array-borrow-prefix-text : tie.Need-array-borrow-prefix-text
 array-borrow-prefix-text c = search needs
 
-slice-aggregate-decipher-2 : tie.Need-slice-aggregate-decipher-2
-slice-aggregate-decipher-2 c =
+slice-aggregate-decipher-under-2 : tie.Need-slice-aggregate-decipher-under-2
+slice-aggregate-decipher-under-2 c =
     let t : length (c .before .before .before .copy-at .last .0) ≡ 240 = c .before .before .before .copy-at .kept .0 in
     sym (length-take-le _ (c .before .before .before .copy-at .last .0) (omega arith))
 
-decipher-requires : tie.Need-decipher-requires
-decipher-requires c κs = search needs
+decipher-under-requires : tie.Need-decipher-under-requires
+decipher-under-requires c κs = let p = c .before .before .before .before .before .before .before in (length-sixteen (search needs), p .pre .0)
 
 returns : tie.Need-returns
 returns c =
     let a = c .before .before .before .before .before .before .before .before .before .args in
-    deciphered-same (a .t1) (a .d .now) (replicate 240 0) _ _ (invCipher 10 (a .rows .now)) _ (a .sum) _ refl (c .before .before .before .before .before .copy-at .ensures) (c .before .decipher .ensures .0) (c .before .decipher .ensures .1)
+    deciphered-same (a .t1) (a .d .now) (replicate 240 0) _ _ (invAesUnder (a .t1)) _ (a .sum) _ refl (c .before .before .before .before .before .copy-at .ensures) (c .before .decipher-under .ensures .0) (c .before .decipher-under .ensures .1)
 
 pub decipher-spec : {M : Type 1} → statement M
 decipher-spec =
@@ -51,8 +52,8 @@ decipher-spec =
     slice-aggregate-copy-at
     slice-aggregate-copy-at-2
     copy-at-requires
-    slice-aggregate-decipher
+    slice-aggregate-decipher-under
     array-borrow-prefix-text
-    slice-aggregate-decipher-2
-    decipher-requires
+    slice-aggregate-decipher-under-2
+    decipher-under-requires
     returns)

@@ -1,31 +1,22 @@
 -- `speed::chain` is safe and ends: the loop counts to `times`, and the text keeps its length. Assumes nothing.
 use Prim.Native.Nat.{_-_}
 use mathlib.Core.Path.{_≡_}
-use borrow.Author.Needs.{needs}
 use lib.ListN.{length}
+use borrow.Author.Needs.{needs}
 use Rattle.speed.proofs.chain.Statement.{statement}
 use Rattle.speed.proofs.chain.Tie as tie
 
 abbrev Inv-loop : tie.InvT-loop
-Inv-loop text₀ is-inverse times key start w sum₀ i₀ text sum i = length text ≡ length text₀
+Inv-loop key w text₀ is-inverse times start sum₀ i₀ text sum i = length text ≡ length text₀
 
 abbrev μ-loop : tie.MeasureT-loop
-μ-loop text₀ is-inverse times key start w sum₀ i₀ text sum i = times - i
+μ-loop key w text₀ is-inverse times start sum₀ i₀ text sum i = times - i
 
 slice-aggregate-block : tie.Need-slice-aggregate-block Inv-loop μ-loop
 slice-aggregate-block c = search needs
 
 block-requires : tie.Need-block-requires Inv-loop μ-loop
 block-requires c κs = search needs
-
-slice-aggregate-block-2 : tie.Need-slice-aggregate-block-2 Inv-loop μ-loop
-slice-aggregate-block-2 c = search needs
-
-block-requires-2 : tie.Need-block-requires-2 Inv-loop μ-loop
-block-requires-2 c κs = search needs
-
-expand-requires : tie.Need-expand-requires Inv-loop μ-loop
-expand-requires c κs = search needs
 
 chain-once-requires : tie.Need-chain-once-requires Inv-loop μ-loop
 chain-once-requires c κs = search needs
@@ -59,9 +50,6 @@ chain-spec =
     μ-loop
     slice-aggregate-block
     block-requires
-    slice-aggregate-block-2
-    block-requires-2
-    expand-requires
     chain-once-requires
     loop-holds
     chain-once-requires-2

@@ -9,7 +9,7 @@ slice-relend-prefix-chain : tie.Need-slice-relend-prefix-chain
 slice-relend-prefix-chain c = search needs
 
 slice-aggregate-chain : tie.Need-slice-aggregate-chain
-slice-aggregate-chain c = sym (length-take-le _ _ (c .before .before .pre))
+slice-aggregate-chain c = sym (length-take-le _ _ (search needs))
 
 chain-requires : tie.Need-chain-requires
 chain-requires c κs = search needs

@@ -5,25 +5,13 @@ use Rattle.speed.proofs.decipher.Statement.{statement}
 use Rattle.speed.proofs.decipher.Tie as tie
 
 abbrev Inv-loop : tie.InvT-loop
-Inv-loop times w b₀ i₀ b i = Unit {0}
+Inv-loop n w times b₀ i₀ b i = Unit {0}
 
 abbrev μ-loop : tie.MeasureT-loop
-μ-loop times w b₀ i₀ b i = times - i
+μ-loop n w times b₀ i₀ b i = times - i
 
-slice-aggregate-block : tie.Need-slice-aggregate-block Inv-loop μ-loop
-slice-aggregate-block c = search needs
-
-block-requires : tie.Need-block-requires Inv-loop μ-loop
-block-requires c κs = search needs
-
-expand-requires : tie.Need-expand-requires Inv-loop μ-loop
-expand-requires c κs = search needs
-
-slice-aggregate-block-2 : tie.Need-slice-aggregate-block-2 Inv-loop μ-loop
-slice-aggregate-block-2 c = search needs
-
-block-requires-2 : tie.Need-block-requires-2 Inv-loop μ-loop
-block-requires-2 c κs = search needs
+ciphertext-requires : tie.Need-ciphertext-requires Inv-loop μ-loop
+ciphertext-requires c κs = search needs
 
 loop-holds : tie.Need-loop-holds Inv-loop μ-loop
 loop-holds c = search needs
@@ -49,11 +37,7 @@ decipher-spec =
     (tie.spec
     Inv-loop
     μ-loop
-    slice-aggregate-block
-    block-requires
-    expand-requires
-    slice-aggregate-block-2
-    block-requires-2
+    ciphertext-requires
     loop-holds
     decipher-requires
     add-i

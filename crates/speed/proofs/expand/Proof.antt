@@ -1,29 +1,35 @@
--- `speed::expand` is safe and ends: the loop counts to `times`. Assumes nothing.
-use Prim.Native.Nat.{_-_}
+-- `speed::expand` is safe and ends: the loop counts to `times`, and the key keeps its length. Assumes nothing.
+use Prim.Native.Nat.{_-_, _<_, _≤_}
+use mathlib.Core.Path.{_≡_, ap, _∙_}
+use lib.ListN.{length}
+use Rattle.key_expansion.specs.KeyLength.{keyLength, length-least, length-most}
 use borrow.Author.Needs.{needs}
 use Rattle.speed.proofs.expand.Statement.{statement}
 use Rattle.speed.proofs.expand.Tie as tie
 
 abbrev Inv-loop : tie.InvT-loop
-Inv-loop times k₀ i₀ k i = Unit {0}
+Inv-loop key₀ times last i₀ key i = (length key ≡ length key₀) × (16 ≤ length key₀) × (last < 15)
 
 abbrev μ-loop : tie.MeasureT-loop
-μ-loop times k₀ i₀ k i = times - i
+μ-loop key₀ times last i₀ key i = times - i
 
-slice-aggregate-block : tie.Need-slice-aggregate-block Inv-loop μ-loop
-slice-aggregate-block c = search needs
-
-block-requires : tie.Need-block-requires Inv-loop μ-loop
-block-requires c κs = search needs
+add-last : tie.Need-add-last Inv-loop μ-loop
+add-last c = search needs
 
 loop-holds : tie.Need-loop-holds Inv-loop μ-loop
-loop-holds c = search needs
+loop-holds c = let p = c .before in search (needs, length-least _ (p .pre), length-most _ (p .pre))
 
 expand-requires : tie.Need-expand-requires Inv-loop μ-loop
-expand-requires c κs = search needs
+expand-requires c κs = ap keyLength (c .before .before .loop .inv .0) ∙ c .before .before .before .before .pre
 
-array-copy-out-k : tie.Need-array-copy-out-k Inv-loop μ-loop
-array-copy-out-k c = search needs
+mul-put-row : tie.Need-mul-put-row Inv-loop μ-loop
+mul-put-row c = search needs
+
+array-copy-out-put-row : tie.Need-array-copy-out-put-row Inv-loop μ-loop
+array-copy-out-put-row c = search needs
+
+put-row-requires : tie.Need-put-row-requires Inv-loop μ-loop
+put-row-requires c κs = search needs
 
 add-i : tie.Need-add-i Inv-loop μ-loop
 add-i c = search needs
@@ -34,6 +40,12 @@ loop-less c = search needs
 loop-again : tie.Need-loop-again Inv-loop μ-loop
 loop-again c = search needs
 
+block-at-requires : tie.Need-block-at-requires Inv-loop μ-loop
+block-at-requires c κs = search needs
+
+same-length : tie.Need-same-length Inv-loop μ-loop
+same-length c = search needs
+
 returns : tie.Need-returns Inv-loop μ-loop
 returns c = search needs
 
@@ -43,12 +55,15 @@ expand-spec =
     (tie.spec
     Inv-loop
     μ-loop
-    slice-aggregate-block
-    block-requires
+    add-last
     loop-holds
     expand-requires
-    array-copy-out-k
+    mul-put-row
+    array-copy-out-put-row
+    put-row-requires
     add-i
     loop-less
     loop-again
+    block-at-requires
+    same-length
     returns)

@@ -5,19 +5,10 @@ use Rattle.speed.proofs.sum_rows.Statement.{statement}
 use Rattle.speed.proofs.sum_rows.Tie as tie
 
 abbrev Inv-loop : tie.InvT-loop
-Inv-loop times w sum₀ i₀ sum i = Unit {0}
+Inv-loop w times sum₀ i₀ sum i = Unit {0}
 
 abbrev μ-loop : tie.MeasureT-loop
-μ-loop times w sum₀ i₀ sum i = times - i
-
-slice-aggregate-block : tie.Need-slice-aggregate-block Inv-loop μ-loop
-slice-aggregate-block c = search needs
-
-block-requires : tie.Need-block-requires Inv-loop μ-loop
-block-requires c κs = search needs
-
-expand-requires : tie.Need-expand-requires Inv-loop μ-loop
-expand-requires c κs = search needs
+μ-loop w times sum₀ i₀ sum i = times - i
 
 mix-rows-requires : tie.Need-mix-rows-requires Inv-loop μ-loop
 mix-rows-requires c κs = search needs
@@ -46,9 +37,6 @@ sum-rows-spec =
     (tie.spec
     Inv-loop
     μ-loop
-    slice-aggregate-block
-    block-requires
-    expand-requires
     mix-rows-requires
     loop-holds
     mix-rows-requires-2

@@ -1,8 +1,14 @@
 -- `expand` meets its contract: the sum of the parts one after the other is that of the step. Assumes nothing.
 use mathlib.Core.Path.{_≡_, sym, ap, ap₂, _∙_}
 use mathlib.Core.List.{List, [], _∷_, _++_, flatten, append-nil}
-use Prim.Native.Nat.{ℕ}
-use Rattle.aes.specs.KeyExpansion.{roundKeys}
+use Prim.Native.Nat.{ℕ, _+_, _/_}
+use native.Mathlib.Omega.{arith}
+use lib.ListN.{length, take}
+use Rattle.key_expansion.specs.KeyLength.{length-most}
+use Rattle.key_expansion.specs.KeyExpansion.{roundKeys}
+use Rattle.key_expansion.specs.Schedule.{fifteen}
+use Rattle.key_expansion.specs.Filling.{length-roundKeys}
+use Rattle.aes.specs.Rows.{take-fifteen}
 use Rattle.work.specs.Steps.{expansion, mixed, mixedAll, sumFrom}
 use Rattle.work.specs.Laws.{mixedAll-append}
 use Rattle.steps.specs.declared.Expanded.{Expanded}
@@ -19,22 +25,41 @@ summed key w s =
     sym (mixedAll-append (mixed s expansion) key (flatten w))
     ∙ ap (λ (l : List ℕ). mixedAll (mixed s expansion) (l ++ flatten w)) (sym (append-nil key))
 
-same : (key : List ℕ) (s : ℕ) {w : List (List ℕ)} {a b d : ℕ} → w ≡ roundKeys 4 key → a ≡ mixed s expansion → b ≡ mixedAll a key → d ≡ mixedAll b (flatten w) → made w d ≡ made (roundKeys 4 key) (sumFrom s (expansionStep key ∷ []))
+-- the rows that are lent are the round keys
+lent : (key : List ℕ) {w : List (List ℕ)} → w ≡ fifteen (length key / 4) key → take (length key / 4 + 7) w ≡ roundKeys (length key / 4) key
+lent key e = ap (take (length key / 4 + 7)) e ∙ take-fifteen (length key / 4) key
+
+same : (key : List ℕ) (s : ℕ) {w : List (List ℕ)} {a b d : ℕ} → w ≡ fifteen (length key / 4) key → a ≡ mixed s expansion → b ≡ mixedAll a key → d ≡ mixedAll b (flatten (take (length key / 4 + 7) w)) →
+    made w d ≡ made (fifteen (length key / 4) key) (sumFrom s (expansionStep key ∷ []))
 same key s {w} ew ea eb ed =
+    let keys : List (List ℕ) = roundKeys (length key / 4) key in
     ap₂ made ew
     (ed
-    ∙ ap (λ (t : ℕ). mixedAll t (flatten w)) (eb ∙ ap (λ (t : ℕ). mixedAll t key) ea)
-    ∙ summed key w s
-    ∙ ap (λ (x : List (List ℕ)). mixedAll s (expansion ∷ (key ++ [] ++ flatten x))) ew)
+    ∙ ap₂ (λ (t : ℕ) (x : List (List ℕ)). mixedAll t (flatten x)) (eb ∙ ap (λ (t : ℕ). mixedAll t key) ea) (lent key ew)
+    ∙ summed key keys s)
 
 expand-requires : tie.Need-expand-requires
 expand-requires c κs = search needs
 
+add-n : tie.Need-add-n
+add-n c = search needs
+
 mix-requires : tie.Need-mix-requires
 mix-requires c κs = search needs
 
-mix-block-requires : tie.Need-mix-block-requires
-mix-block-requires c κs = search needs
+mix-all-requires : tie.Need-mix-all-requires
+mix-all-requires c κs = search needs
+
+array-share-prefix-rows : tie.Need-array-share-prefix-rows
+array-share-prefix-rows c =
+    let p = c .before .before .before .before in
+    let long : length (c .before .before .expand .result) ≡ 15 = search needs in
+    omega (arith, long, length-most (length (p .args .key .now)) (p .pre))
+
+slice-aggregate-mix-rows : tie.Need-slice-aggregate-mix-rows
+slice-aggregate-mix-rows c =
+    let k = c .before .before .before .before .before .args .key .now in
+    sym (ap length (lent k (c .before .before .before .expand .ensures)) ∙ length-roundKeys (length k / 4) k)
 
 mix-rows-requires : tie.Need-mix-rows-requires
 mix-rows-requires c κs = search needs
@@ -45,15 +70,19 @@ together-requires c κs = search needs
 returns : tie.Need-returns
 returns c =
     let b = c .before .before .before in
-    c .together .ensures ∙ same _ _ (b .before .before .expand .ensures) (b .before .mix .ensures) (b .mix-block .ensures) (c .before .mix-rows .ensures)
+    let a = b .before .before .before .before .args in
+    c .together .ensures ∙ same (a .key .now) (a .sum) (b .before .before .expand .ensures) (b .before .mix .ensures) (b .mix-all .ensures) (c .before .mix-rows .ensures)
 
 pub expand-spec : {M : Type 1} → statement M
 expand-spec =
     tie.close
     (tie.spec
     expand-requires
+    add-n
     mix-requires
-    mix-block-requires
+    mix-all-requires
+    array-share-prefix-rows
+    slice-aggregate-mix-rows
     mix-rows-requires
     together-requires
     returns)

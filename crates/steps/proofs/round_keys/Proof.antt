@@ -65,24 +65,24 @@ abbrev Line : RattleType
 Line = Array (rtF (fInt w8)) 16
 
 abbrev lines : Ty
-lines = tyArray (tyArray (tyInt w8) 16) 11
+lines = tyArray (tyArray (tyInt w8) 16) 15
 
 -- the locals at the entry, after the read, and with the parameter done with
 abbrev entry : Cx
 entry = record { locals = (0, any-gone lines) ∷ (1, whole T.the-row) ∷ []; slots = [] }
 
 abbrev read : Cx
-read = record { locals = (0, arrF Line 11 0) ∷ (1, whole T.the-row) ∷ []; slots = [] }
+read = record { locals = (0, arrF Line 15 0) ∷ (1, whole T.the-row) ∷ []; slots = [] }
 
 abbrev last : Cx
-last = record { locals = (0, arrF Line 11 0) ∷ (1, any-gone L.mir) ∷ []; slots = [] }
+last = record { locals = (0, arrF Line 15 0) ∷ (1, any-gone L.mir) ∷ []; slots = [] }
 
 abbrev outs : Outs
 outs = record { next = none; exits = []; returns = some last }
 
 abbrev s-read : Both entry read
 s-read =
-    k-way-copy-out entry (out 1 (entry .locals)) (λ u. drop 1 (entry .locals) u) 0 (arrF Line 11 0)
+    k-way-copy-out entry (out 1 (entry .locals)) (λ u. drop 1 (entry .locals) u) 0 (arrF Line 15 0)
     (λ u. getAt (T.the-type .parts) 0 (T.struct .as-values (u .1 .0)))
     (λ T′. record { locals = setRow 1 (1, whole T.the-row) T′; slots = [] })
     (λ u T′ m′. set 1 (1, whole T.the-row) (u .1 .0) T′ m′)
@@ -101,8 +101,8 @@ same : (xs : List (List ℕ)) → map (map (λ (v : ℕ). v)) xs ≡ xs
 same xs = (λ i. map (λ d. map-id d i) xs) ∙ map-id xs
 
 module _ {M : Type 1} (𝓤 : URA M) (H : Heap 𝓤) (A : Atoms 𝓤) (q : Share) (x : T.struct .D) (a : ℕ × ℕ) where
-  cut-lines : Cut 𝓤 H A q T.the-row (Array Line 11) 0 x x (map (map (λ (v : ℕ). v)) (x .rows)) (map (map (λ (v : ℕ). v)) (x .rows)) a → Cut 𝓤 H A q T.the-row (Array Line 11) 0 x x (x .rows) (x .rows) a
-  cut-lines = subst (λ (zs : List (List ℕ)). Cut 𝓤 H A q T.the-row (Array Line 11) 0 x x zs zs a) (same (x .rows))
+  cut-lines : Cut 𝓤 H A q T.the-row (Array Line 15) 0 x x (map (map (λ (v : ℕ). v)) (x .rows)) (map (map (λ (v : ℕ). v)) (x .rows)) a → Cut 𝓤 H A q T.the-row (Array Line 15) 0 x x (x .rows) (x .rows) a
+  cut-lines = subst (λ (zs : List (List ℕ)). Cut 𝓤 H A q T.the-row (Array Line 15) 0 x x zs zs a) (same (x .rows))
 
 module _ (κs : Lfts 0) (qs : Shares 0) {M : Type 1} (𝓤 : URA M) (H : Heap 𝓤) (A : Atoms 𝓤) (W : Given 𝓤 H A) (𝓣 : Tables 𝓤 H) (bs : List ℕ) (bd : AllOutlive 0 (K.osR r) κs) where
   abbrev E : Env 𝓤 H
@@ -123,9 +123,9 @@ module _ (κs : Lfts 0) (qs : Shares 0) {M : Type 1} (𝓤 : URA M) (H : Heap �
   typed : Typed 𝓤 H A 𝓣 E (Γin 0 ps r [] 0 κs qs) body (Δret 0 ps r [] 0 κs qs) Φ
   typed =
       s-seq 𝓤 H A W 𝓣 E entry read reading return outs (both s-read) at1
-      (t-way-copy-out 𝓤 H A W E 𝓣 (Array Line 11) refl
-      (cArr Line (eArr (eInt w8) 16 .cp) 11 .copy 𝓤 H A W)
-      (λ ρ. Unit) entry (out 1 (entry .locals)) (λ u. drop 1 (entry .locals) u) (entry .slots) 1 (λ t. field 0 ∷ t) lines lines 0 (arrF Line 11 0)
+      (t-way-copy-out 𝓤 H A W E 𝓣 (Array Line 15) refl
+      (cArr Line (eArr (eInt w8) 16 .cp) 15 .copy 𝓤 H A W)
+      (λ ρ. Unit) entry (out 1 (entry .locals)) (λ u. drop 1 (entry .locals) u) (entry .slots) 1 (λ t. field 0 ∷ t) lines lines 0 (arrF Line 15 0)
       (λ x. x)
       (λ u. getAt (T.the-type .parts) 0 (T.struct .as-values (u .1 .0)))
       (λ u. (hd 0 (tl bs), 0))
@@ -133,8 +133,8 @@ module _ (κs : Lfts 0) (qs : Shares 0) {M : Type 1} (𝓤 : URA M) (H : Heap �
       (λ u T′ m′. set 1 (1, whole T.the-row) (u .1 .0) T′ m′)
       (λ u. Unit) (λ x. Unit)
       (told-none 𝓤 H A (entry .slots))
-      (learns-nothing 𝓤 H A (Array Line 11))
-      (λ ρ told u asked. w-partˢ 𝓤 H A W E T.the-row (Array Line 11) L.mir lines 0 0 (u .1 .0) (u .1 .0 .rows) spot
+      (learns-nothing 𝓤 H A (Array Line 15))
+      (λ ρ told u asked. w-partˢ 𝓤 H A W E T.the-row (Array Line 15) L.mir lines 0 0 (u .1 .0) (u .1 .0 .rows) spot
       (w-look 𝓤 H A W E
       (w-local 𝓤 H A W E entry ρ u (entry .slots) 1 T.the-row (whole T.the-row) (λ x. x) (λ x. x) (u .1 .0)
       (mem-whole 𝓤 H A W T.the-row ρ (u .1 .0) (hd 0 (tl bs)))
@@ -142,7 +142,7 @@ module _ (κs : Lfts 0) (qs : Shares 0) {M : Type 1} (𝓤 : URA M) (H : Heap �
       refl
       (λ q. cut-lines 𝓤 H A q (u .1 .0) spot (look-at 𝓤 H A W q T.the-type L.the-laws 0 0 refl refl spot (u .1 .0) (T.struct .as-values (u .1 .0)) refl)))
       (room-gone 𝓤 H A lines)
-      (makes-mem 𝓤 H A W (λ ρ. Unit) (Array Line 11) refl (arrF Line 11 0) (λ x. x) (λ ρ told. arr-mem 𝓤 H A W Line 11 tt ρ))
+      (makes-mem 𝓤 H A W (λ ρ. Unit) (Array Line 15) refl (arrF Line 15 0) (λ x. x) (λ ρ told. arr-mem 𝓤 H A W Line 15 tt ρ))
       refl refl refl)
       d1
 

@@ -65,17 +65,17 @@ abbrev Line : RattleType
 Line = Array (rtF (fInt w8)) 16
 
 abbrev lines : Ty
-lines = tyArray (tyArray (tyInt w8) 16) 11
+lines = tyArray (tyArray (tyInt w8) 16) 15
 
 abbrev apart : RattleType
 apart = row (apartT T.the-type)
 
 -- the locals at the entry, after the literal, after each operand is done with, and with the result whole
 abbrev entry : Cx
-entry = record { locals = (0, any-gone L.mir) ∷ (1, arrF Line 11 0) ∷ (2, sc-here (sInt w64)) ∷ (3, sc-here (sInt w32)) ∷ []; slots = [] }
+entry = record { locals = (0, any-gone L.mir) ∷ (1, arrF Line 15 0) ∷ (2, sc-here (sInt w64)) ∷ (3, sc-here (sInt w32)) ∷ []; slots = [] }
 
 abbrev made : Cx
-made = record { locals = (0, whole apart) ∷ (1, arrF Line 11 0) ∷ (2, sc-here (sInt w64)) ∷ (3, sc-here (sInt w32)) ∷ []; slots = [] }
+made = record { locals = (0, whole apart) ∷ (1, arrF Line 15 0) ∷ (2, sc-here (sInt w64)) ∷ (3, sc-here (sInt w32)) ∷ []; slots = [] }
 
 abbrev made1 : Cx
 made1 = record { locals = (0, whole apart) ∷ (1, any-gone lines) ∷ (2, sc-here (sInt w64)) ∷ (3, sc-here (sInt w32)) ∷ []; slots = [] }
@@ -126,13 +126,13 @@ abbrev linesVal : List (List ℕ) → Val
 linesVal xs = arrayVal (map lineVal xs)
 
 abbrev Right : Mo entry → Type 0
-Right m = Is (Array Line 11) (m .1 .0) (linesVal (m .1 .0) ∷ [])
+Right m = Is (Array Line 15) (m .1 .0) (linesVal (m .1 .0) ∷ [])
 
 abbrev vals : Mo entry → List Val
 vals m = linesVal (m .1 .0) ∷ L.the-laws .1 .0 .val (m .1 .1 .0) ∷ L.the-laws .1 .1 .0 .val (m .1 .1 .1 .0) ∷ []
 
-abbrev rows-made : (m : Mo entry) → Right m → Made (array-field (array-field u8-field 16) 11) (L.the-laws .0) (linesVal (m .1 .0)) (map (map (λ v. v)) (m .1 .0))
-rows-made m q = made-array-at (array-field u8-field 16) (S.array-laws u8-field S.u8-laws 16) 11 (λ d. d) (λ d. sym (map-id d)) (m .1 .0) q
+abbrev rows-made : (m : Mo entry) → Right m → Made (array-field (array-field u8-field 16) 15) (L.the-laws .0) (linesVal (m .1 .0)) (map (map (λ v. v)) (m .1 .0))
+rows-made m q = made-array-at (array-field u8-field 16) (S.array-laws u8-field S.u8-laws 16) 15 (λ d. d) (λ d. sym (map-id d)) (m .1 .0) q
 
 module _ (κs : Lfts 0) (qs : Shares 0) {M : Type 1} (𝓤 : URA M) (H : Heap 𝓤) (A : Atoms 𝓤) (W : Given 𝓤 H A) (𝓣 : Tables 𝓤 H) (bs : List ℕ) (bd : AllOutlive 0 (K.osR r) κs) where
   abbrev E : Env 𝓤 H
@@ -163,7 +163,7 @@ module _ (κs : Lfts 0) (qs : Shares 0) {M : Type 1} (𝓤 : URA M) (H : Heap �
   d0 : Typed 𝓤 H A 𝓣 E made return outs at0
   d0 =
       g-pre 𝓤 H A W 𝓣 E made made1 return outs (pass made made1 (n-room made 1 lines)) at1
-      (g-room 𝓤 H A W E made 1 lines (room-arr 𝓤 H A W Line 11 0 11 refl))
+      (g-room 𝓤 H A W E made 1 lines (room-arr 𝓤 H A W Line 15 0 15 refl))
       d1
 
   typed : Typed 𝓤 H A 𝓣 E (Γin 0 ps r [] 0 κs qs) body (Δret 0 ps r [] 0 κs qs) Φ
@@ -178,9 +178,9 @@ module _ (κs : Lfts 0) (qs : Shares 0) {M : Type 1} (𝓤 : URA M) (H : Heap �
       values
       Right
       (room-gone 𝓤 H A L.mir)
-      ((arr-reads 𝓤 H A W (eArr (eInt w8) 16) (eArr-laws (eInt w8) (eInt-laws w8) 16) 11, refl), ((reads-sc 𝓤 H A W (sInt w64), refl), ((reads-sc 𝓤 H A W (sInt w32), refl), tt)))
+      ((arr-reads 𝓤 H A W (eArr (eInt w8) 16) (eArr-laws (eInt w8) (eInt-laws w8) 16) 15, refl), ((reads-sc 𝓤 H A W (sInt w64), refl), ((reads-sc 𝓤 H A W (sInt w32), refl), tt)))
       refl
-      (λ ρ m. tells-row 𝓤 H A W E ρ (out 0 (entry .locals)) m 1 (Right m) (arr-is 𝓤 H A W E Line tt lineVal (eArr (eInt w8) 16 .cp .tells) 11 ρ 1 (m .1 .0)))
+      (λ ρ m. tells-row 𝓤 H A W E ρ (out 0 (entry .locals)) m 1 (Right m) (arr-is 𝓤 H A W E Line tt lineVal (eArr (eInt w8) 16 .cp .tells) 15 ρ 1 (m .1 .0)))
       (λ m q. made-val (apartT T.the-type) L.the-laws (vals m) (values m) (rows-made m q, (made-wt u64-field (L.the-laws .1 .0) u64-wt (m .1 .1 .0), (made-wt u32-field (L.the-laws .1 .1 .0) u32-wt (m .1 .1 .1 .0), tt))))
       (λ m q. made-is (apartT T.the-type) L.the-laws (vals m) (values m) (rows-made m q, (made-wt u64-field (L.the-laws .1 .0) u64-wt (m .1 .1 .0), (made-wt u32-field (L.the-laws .1 .1 .0) u32-wt (m .1 .1 .1 .0), tt)))))
       d0

@@ -11,10 +11,10 @@ use Rattle.work.proofs.mix_rows.Statement.{statement}
 use Rattle.work.proofs.mix_rows.Tie as tie
 
 abbrev Inv-loop : tie.InvT-loop
-Inv-loop s rows list sum₀ row₀ sum row = (row ≤ length rows) × (mixedAll sum (flatten (drop row rows)) ≡ mixedAll s (flatten rows))
+Inv-loop s rows sum₀ row₀ sum row = (row ≤ length rows) × (mixedAll sum (flatten (drop row rows)) ≡ mixedAll s (flatten rows))
 
 abbrev μ-loop : tie.MeasureT-loop
-μ-loop s rows list sum₀ row₀ sum row = length rows - row
+μ-loop s rows sum₀ row₀ sum row = length rows - row
 
 loop-holds : tie.Need-loop-holds Inv-loop μ-loop
 loop-holds c = (search needs, refl)

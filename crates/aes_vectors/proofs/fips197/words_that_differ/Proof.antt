@@ -1,14 +1,15 @@
--- `aes_vectors::fips197::words_that_differ` is safe and ends: the loop counts to 44. Assumes nothing.
+-- `aes_vectors::fips197::words_that_differ` is safe and ends: the loop counts to the number of words, at most 60. Assumes nothing.
 use Prim.Native.Nat.{_-_}
+use lib.ListN.{length}
 use borrow.Author.Needs.{needs}
 use Rattle.aes_vectors.proofs.fips197.words_that_differ.Statement.{statement}
 use Rattle.aes_vectors.proofs.fips197.words_that_differ.Tie as tie
 
 abbrev Inv-loop : tie.InvT-loop
-Inv-loop w n₀ j₀ n j = Unit {0}
+Inv-loop w wanted n₀ j₀ n j = Unit {0}
 
 abbrev μ-loop : tie.MeasureT-loop
-μ-loop w n₀ j₀ n j = 44 - j
+μ-loop w wanted n₀ j₀ n j = length wanted - j
 
 loop-holds : tie.Need-loop-holds Inv-loop μ-loop
 loop-holds c = search needs
@@ -25,8 +26,8 @@ column-requires c κs = search needs
 mul-if1 : tie.Need-mul-if1 Inv-loop μ-loop
 mul-if1 c = search needs
 
-array-read-if1 : tie.Need-array-read-if1 Inv-loop μ-loop
-array-read-if1 c = search needs
+shared-slice-read-if1 : tie.Need-shared-slice-read-if1 Inv-loop μ-loop
+shared-slice-read-if1 c = search needs
 
 more-requires : tie.Need-more-requires Inv-loop μ-loop
 more-requires c κs = search needs
@@ -54,7 +55,7 @@ words-that-differ-spec =
     element-copy-out-column
     column-requires
     mul-if1
-    array-read-if1
+    shared-slice-read-if1
     more-requires
     add-j
     loop-less

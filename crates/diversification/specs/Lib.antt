@@ -1,0 +1,2 @@
+pub mod Diversification
+pub mod Laws
