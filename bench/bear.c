@@ -5,8 +5,8 @@
  * bear small|big OPERATION TIMES. SHA-256 is the same for both. The operation expand-inverse-N expands a key of N bytes to
  * decipher.
  *
- * The operation parts-LIST is BearSSL's part of a command, one behind the other: x and y expand a key to encipher and to
- * decipher, eN and dN encipher and decipher N blocks in CBC, hN hashes N bytes. Beside BearSSL's functions that takes some
+ * The operation parts-LIST is BearSSL's part of a command, one behind the other: xN and yN expand a key of N bytes to encipher and
+ * to decipher, eN and dN encipher and decipher N blocks in CBC, hN hashes N bytes. Beside BearSSL's functions that takes some
  * ten instructions a part.
  */
 #include <bearssl.h>
@@ -89,16 +89,16 @@ static void sha256(unsigned char *text, size_t len, long times)
 
 static void part(char what, unsigned char *text, size_t n)
 {
-	static const unsigned char key[16];
+	static const unsigned char key[32];
 	static br_aes_gen_cbcenc_keys to_encipher;
 	static br_aes_gen_cbcdec_keys to_decipher;
 	unsigned char iv[16] = { 0 };
 	switch (what) {
 	case 'x':
-		enc->init(&to_encipher.vtable, key, 16);
+		enc->init(&to_encipher.vtable, key, n);
 		break;
 	case 'y':
-		dec->init(&to_decipher.vtable, key, 16);
+		dec->init(&to_decipher.vtable, key, n);
 		break;
 	case 'e':
 		enc->run(&to_encipher.vtable, iv, text, 16 * n);

@@ -21,6 +21,29 @@
  * To a stranger a card never refuses. A refused command is answered like an
  * accepted one, with the same length and status 9000, under the shill keys.
  *
+ * Key length
+ *
+ *   A card and its reader have one key length L: 16, 24 or 32 bytes, for
+ *   AES-128, AES-192 or AES-256. FAKeys, the shill key, RND1, RND2 and KeysHash
+ *   have L bytes each. DivData has 16 and an RSA key 2048 bits, whatever L is.
+ *   The card keeps its load's L. The reader says L to Open, Seal and Accept.
+ *   Where a size depends on L it is written here for 16, 24 and 32, in this
+ *   order, and has a macro below that takes L.
+ *
+ *   Set L once at each end, together with the keys. No message says it, and no
+ *   end finds out the other's; a stranger may see it by the length of a final
+ *   command. Between two ends of unequal L no block opens: the reader has 15,
+ *   as from a card that holds none of its sets.
+ *
+ *   Take 16 where another maker's card or reader is in play. ISO/IEC 25185-1
+ *   names the three lengths in clause 11, but its clause 1, table 1 and clause
+ *   10 have keys of 16 bytes and a diversified key of one block. So 24 and 32
+ *   are a rule of this house, and no other maker's end has it:
+ *     STR1, STR2 and KeysHash are as with 16, with L bytes for each RND and for
+ *     KeysHash, the first L bytes of SHA-256 over RND1 and RND2;
+ *     the diversified key is the first L bytes of two blocks enciphered under
+ *     FAKey: DivData, and DivData with the top bit of its first byte flipped.
+ *
  * Rules for every call
  *
  *   - Each function takes every value of its arguments. It has no error but
@@ -38,6 +61,8 @@
  *     call at a time.
  *   - A declined call writes nothing, and hands back its number and zeros,
  *     unless said below.
+ *   - A key, RND or KeysHash passes as a plaid_value, which says its own
+ *     length. One that is not of L bytes is declined by 22.
  *   - Numbers inside commands, blocks and answers stand high byte first. The
  *     functions write and read them so; the structs hold plain numbers.
  *
@@ -63,13 +88,14 @@
  * What the platform lends
  *
  *   Fresh bytes. plaid_command gets 253 in each call. They are random and no
- *   stranger can guess them. The first 50 may have any value. The last 203 are
- *   pad bytes, and none of them is 0: draw a zero again. Never use the bytes
- *   of a call twice, and never for another card. Draw new ones for each call,
- *   also after a call that was declined. plaid_seal gets RND2, 16 bytes, which
- *   are as fresh: new for each session. Where there are no random bytes, make
- *   no call. A card answers status 6F00 then, with no bytes before it, and
- *   stays as it was: a reader that gets no answer waits for one.
+ *   stranger can guess them. The first 50, 66 or 82 may have any value. The
+ *   other 203, 187 or 171 are pad bytes, and none of them is 0: draw a zero
+ *   again. Never use the bytes of a call twice, and never for another card.
+ *   Draw new ones for each call, also after a call that was declined.
+ *   plaid_seal gets RND2, L bytes, which are as fresh: new for each session.
+ *   Where there are no random bytes, make no call. A card answers status 6F00
+ *   then, with no bytes before it, and stays as it was: a reader that gets no
+ *   answer waits for one.
  *
  *   RSA on the card. An answer to an initial command is a padded block and a
  *   key handle. The platform encrypts the block by the public RSA key that the
@@ -116,14 +142,10 @@ typedef char plaid_size_is_64_bits[sizeof(size_t) == 8 ? 1 : -1];
 #define PLAID_CARD_MODES 16             /* modes of a card, at most */
 #define PLAID_CARD_AREA 1024            /* record area, at most */
 #define PLAID_CARD_RECORD 64            /* a record, at most; at least 1 */
-#define PLAID_KEY 16                    /* an AES key: FAKey, shill key */
-#define PLAID_DIV_DATA 16               /* DivData */
-#define PLAID_RND 16                    /* RND1, RND2 */
-#define PLAID_KEYS_HASH 16              /* KeysHash */
+#define PLAID_DIV_DATA 16               /* DivData, whatever L is */
+#define PLAID_VALUE_MOST 32             /* a key, RND or KeysHash, at most */
 
 #define PLAID_FRESH 253                 /* fresh bytes of a command call */
-#define PLAID_FRESH_ANY 50              /* the first of them: any value */
-#define PLAID_FRESH_PADS 203            /* the rest, pad bytes: none is 0 */
 #define PLAID_OUTPUT 256                /* output of a command, at least */
 #define PLAID_BLOCK 256                 /* an RSA block */
 
@@ -135,15 +157,28 @@ typedef char plaid_size_is_64_bits[sizeof(size_t) == 8 ? 1 : -1];
 #define PLAID_LIST_IDS 16               /* KeySetIDs of a reader, at most */
 #define PLAID_LIST_COMMAND_LEAST 12     /* List's command for 1 KeySetID */
 #define PLAID_LIST_COMMAND_MOST 72      /* List's command for 16 */
-#define PLAID_PAYLOAD 205               /* payload of Seal, at most */
-#define PLAID_FINAL_COMMAND_LEAST 54    /* Seal's command, no payload */
-#define PLAID_FINAL_COMMAND_MOST 246    /* Seal's command, payload of 205 */
+#define PLAID_FINAL_COMMAND_MOST 246    /* Seal's command, longest payload */
 
 #define PLAID_ANSWER_INITIAL 256        /* answer to an initial command */
 #define PLAID_CARD_REPLY_LEAST 2        /* reply size B, in blocks of 16 */
 #define PLAID_CARD_REPLY_MOST 6
 #define PLAID_ANSWER_FINAL_LEAST 32     /* answer to a final command: 16 B, */
 #define PLAID_ANSWER_FINAL_MOST 96      /* so 32, 48, 64, 80 or 96 */
+
+/*
+ * Sizes that depend on L, which is 16, 24 or 32. Each is a constant expression
+ * where L is one.
+ */
+/* whether l is one of the three: 1 or 0 */
+#define PLAID_IS_KEY_LENGTH(l) ((l) == 16 || (l) == 24 || (l) == 32)
+/* the first fresh bytes, of any value; STR1: 50, 66 or 82 */
+#define PLAID_FRESH_ANY(l) (18 + 2 * (l))
+/* the other fresh bytes, pad bytes, none of them 0: 203, 187 or 171 */
+#define PLAID_FRESH_PADS(l) (235 - 2 * (l))
+/* payload of Seal, at most: 205, 189 or 173 */
+#define PLAID_PAYLOAD(l) (237 - 2 * (l))
+/* Seal's command without payload: 54, 70 or 86 */
+#define PLAID_FINAL_COMMAND_LEAST(l) (22 + 2 * (l))
 
 /*
  * Stack, in bytes: how much of the caller's stack a call takes, at most.
@@ -160,12 +195,12 @@ typedef char plaid_size_is_64_bits[sizeof(size_t) == 8 ? 1 : -1];
  * the library's machine code reserves, written or not, in its deepest chain
  * of calls. It is the greater of the two, in whole sixteens.
  */
-#define PLAID_STACK_LOAD 5232
-#define PLAID_STACK_COMMAND 9248
-#define PLAID_STACK_LIST 144
-#define PLAID_STACK_OPEN 160
-#define PLAID_STACK_SEAL 1424
-#define PLAID_STACK_ACCEPT 1232
+#define PLAID_STACK_LOAD 5776
+#define PLAID_STACK_COMMAND 9232
+#define PLAID_STACK_LIST 96
+#define PLAID_STACK_OPEN 208
+#define PLAID_STACK_SEAL 1680
+#define PLAID_STACK_ACCEPT 1296
 #define PLAID_STACK_RECORD 16
 
 /*
@@ -182,6 +217,11 @@ typedef char plaid_size_is_64_bits[sizeof(size_t) == 8 ? 1 : -1];
  */
 #define PLAID_DONE 0
 
+/* plaid_load, plaid_open, plaid_seal, plaid_accept: first of all */
+#define PLAID_DECLINE_KEY_LENGTH 21       /* L is not 16, 24 or 32 */
+/* plaid_load, behind 1; plaid_seal, plaid_accept, behind 21 */
+#define PLAID_DECLINE_VALUE_LENGTH 22     /* a key, RND or KeysHash that is
+                                             not of L bytes */
 /* plaid_load */
 #define PLAID_DECLINE_KEY_SET_COUNT 1     /* not 1 to 8 key sets */
 #define PLAID_DECLINE_KEY_SET_REPEATED 2  /* two sets with one KeySetID */
@@ -205,7 +245,7 @@ typedef char plaid_size_is_64_bits[sizeof(size_t) == 8 ? 1 : -1];
                                              bytes for each */
 #define PLAID_DECLINE_NONE_OPENS 15       /* no block opens */
 /* plaid_seal */
-#define PLAID_DECLINE_PAYLOAD 16          /* payload over 205 */
+#define PLAID_DECLINE_PAYLOAD 16          /* payload over 205, 189 or 173 */
 #define PLAID_DECLINE_SEAL_OUTPUT 17      /* output too short */
 /* plaid_accept */
 #define PLAID_DECLINE_RESPONSE 18         /* no length that an answer has */
@@ -225,6 +265,17 @@ typedef struct plaid_op_mode_id {
 } plaid_op_mode_id;
 
 /*
+ * A key, RND or KeysHash as it is given and handed back: so many bytes, from
+ * the first on. Give it a length of L. Past it nothing is looked at; what is
+ * handed back has zeros there. 32 is the most that it holds: one that says more
+ * is of no L bytes, and declined. Handed back with a decline it is all zeros.
+ */
+typedef struct plaid_value {
+    uint8_t length;
+    uint8_t bytes[PLAID_VALUE_MOST];
+} plaid_value;
+
+/*
  * The card
  */
 
@@ -232,7 +283,7 @@ typedef struct plaid_op_mode_id {
 typedef struct plaid_key_set {
     plaid_key_set_id id;
     uint8_t handle;                     /* names the platform's RSA key */
-    uint8_t fa_key[PLAID_KEY];
+    plaid_value fa_key;                 /* L bytes */
 } plaid_key_set;
 
 /* A mode as a load gives it. Its record is a part of the record area. */
@@ -244,19 +295,23 @@ typedef struct plaid_mode {
 
 /* What a load is given beside the key sets and the record area. */
 typedef struct plaid_given {
+    size_t key_length;                  /* L: 16, 24 or 32 */
     plaid_mode modes[PLAID_CARD_MODES];
     size_t mode_count;                  /* past it nothing is looked at */
     uint8_t div_data[PLAID_DIV_DATA];
-    uint8_t shill_key[PLAID_KEY];       /* for answers to strangers */
+    plaid_value shill_key;              /* L bytes, for answers to strangers */
     uint8_t shill_handle;               /* the same, for RSA */
 } plaid_given;
 
-/* A slot of a card. Where held is false it is empty, its other fields 0. */
+/*
+ * A slot of a card. Where held is false it is empty, its other fields 0. Here
+ * and below a card holds L bytes as the first of 32, with zeros behind them.
+ */
 typedef struct plaid_key_set_slot {
     bool held;
     plaid_key_set_id id;
     uint8_t handle;
-    uint8_t fa_key[PLAID_KEY];
+    uint8_t fa_key[PLAID_VALUE_MOST];   /* the first L */
 } plaid_key_set_slot;
 
 typedef struct plaid_mode_slot {
@@ -270,7 +325,7 @@ typedef struct plaid_mode_slot {
 typedef struct plaid_session {
     bool opened;
     plaid_key_set_id id;
-    uint8_t rnd1[PLAID_RND];
+    uint8_t rnd1[PLAID_VALUE_MOST];     /* the first L */
 } plaid_session;
 
 /*
@@ -282,33 +337,36 @@ typedef struct plaid_card {
     plaid_mode_slot modes[PLAID_CARD_MODES];
     uint8_t area[PLAID_CARD_AREA];
     uint8_t div_data[PLAID_DIV_DATA];
-    uint8_t shill_key[PLAID_KEY];
+    uint8_t shill_key[PLAID_VALUE_MOST]; /* the first L */
     uint8_t shill_handle;
+    size_t key_length;                  /* L */
     size_t reply_size;                  /* B: a final answer has 16 B bytes */
     plaid_session session;
 } plaid_card;
 
 typedef struct plaid_loaded {
-    uint8_t number;                     /* 0, or 1 to 6 */
+    uint8_t number;                     /* 0; 1 to 6, 21, 22 */
     plaid_card card;
 } plaid_loaded;
 
 /*
  * Makes a card.
  *
- * In: 1 to 8 key sets; 1 to 16 modes; a record area of at most 1024 bytes, of
- * which each mode's record is a part of 1 to 64 bytes; DivData; the shill
- * keys. Any set_count and any mode_count are taken, and a wrong one is
+ * In: L; 1 to 8 key sets; 1 to 16 modes; a record area of at most 1024 bytes,
+ * of which each mode's record is a part of 1 to 64 bytes; DivData; the shill
+ * keys. Any key_length, set_count and mode_count are taken, and a wrong one is
  * declined. `sets` points to set_count key sets.
  *
  * Back: number 0 and the card. Its key sets and modes fill their slots from
  * the first on, in the order given. The area is copied into it, with zeros
  * behind. Its reply size B is the largest that any of its records needs, from
- * 2 to 6; a record needs floor((record length + 16) / 16) + 1. It has no
- * session.
+ * 2 to 6; a record needs floor((record length + 16) / 16) + 1, whatever L is.
+ * It has no session.
  *
  * Declines, in the order in which they are tested:
+ *   21  L is not 16, 24 or 32
  *    1  set_count is 0, or over 8
+ *   22  the FAKey of a set, or the shill key, is not of L bytes
  *    2  two key sets have the same KeySetID
  *    3  a key set has the shill handle
  *    4  mode_count is 0, or over 16
@@ -330,14 +388,18 @@ typedef struct plaid_loaded {
  * plaid_accept). A relay with another maker's reader gets 4 bytes and 12 zeros
  * from such a card, since ISO/IEC 25185-1 (6.7) allows a payload behind the
  * record and has no mark between the two. See to it that it takes the 4 bytes,
- * or load a card for it whose records need no filler.
+ * or load a card for it whose records need no filler. And load that card with
+ * L = 16: a longer one is a rule of this house (see "Key length"), and a reader
+ * that has it not opens none of the card's blocks.
  *
  * FAKeys are given undiversified. The card diversifies them by its DivData in
  * each final command, so whoever reads out a card has the FAKeys of its sets,
  * for every card that holds these.
  *
  * DivData is unique for each card, best random, and guarded like a key: Accept
- * knows the card by it. The public halves of the RSA keys are guarded too, on
+ * knows the card by it. With L over 16 no two cards have DivData that differ in
+ * the top bit of the first byte alone: their diversified keys would be made of
+ * the same two blocks. The public halves of the RSA keys are guarded too, on
  * the card and off it: who has one can answer an initial command in a card's
  * place. ISO/IEC 25185-1, annex B, recommends that both halves be managed like
  * shared symmetric keys.
@@ -348,8 +410,8 @@ typedef struct plaid_loaded {
  * can be told from acceptances.
  *
  * ISO/IEC 25185-1 has the shill keys random, made by the card and known to it
- * alone. That two cards' refusals are alike is proved for equal shill keys and
- * equal B; this is the proof's condition, and no advice. What sharing hides: a
+ * alone. That two cards' refusals are alike is proved for equal shill keys, L
+ * and B; this is the proof's condition, and no advice. What sharing hides: a
  * stranger who gathers refused answers can estimate the RSA modulus, by which
  * cards are told apart where each has its own. What sharing costs: shill keys
  * that leak from one card, or from where they are made, have leaked for all.
@@ -419,12 +481,12 @@ typedef struct plaid_outcome {
  *   with 256 bytes and 9000. Where sessions end with 15 for no reason that can
  *   be seen, look at these bytes first.
  *   length 256, status 9000, and in the output a block to encrypt under
- *   `handle`: 00 02, the pad bytes, 00, and 50 bytes.
+ *   `handle`: 00 02, the pad bytes, 00, and 50, 66 or 82 bytes.
  *   accepted: those are KeySetID, DivData, RND1 and RND1 again, where RND1 is
- *       the first 16 fresh bytes. The handle is that key set's. The session
+ *       the first L fresh bytes. The handle is that key set's. The session
  *       opens, and replaces any other.
- *   refused (no set in common, or a malformed list): those are the first 50
- *       fresh bytes. The handle is the shill handle. No session is open.
+ *   refused (no set in common, or a malformed list): those are the first 50, 66
+ *       or 82 fresh bytes. The handle is the shill handle. No session is open.
  *   counts: 8 floor(Lc / 4) comparisons, whatever the list's form; the rest 0.
  *
  * Final command (INS 86). The data is STR2 as plaid_seal writes it.
@@ -435,8 +497,8 @@ typedef struct plaid_outcome {
  *   refused: the first 16 B fresh bytes, by CBC under the shill key.
  *   The session closes either way. A payload is checked with the rest and not
  *   used.
- *   counts: 16 comparisons, floor(Lc / 16) decipherments, B + 1 encipherments,
- *   3 expansions, 1 hash block.
+ *   counts: 16 comparisons, floor(Lc / 16) decipherments, B + 1 encipherments
+ *   or, for L over 16, B + 2; 3 expansions; 1 hash block or, for L = 32, 2.
  *
  * Accepted and refused have the same number, status, counts and length. Tell
  * an initial answer from a final one by the command's INS or by the length,
@@ -449,7 +511,7 @@ typedef struct plaid_outcome {
  * was, its session too, and writes nothing. Length, counts, sum and handle
  * are 0.
  *   number  8   fresh_len is not 253
- *   number  9   one of the last 203 fresh bytes is 0
+ *   number  9   one of the last 203, 187 or 171 fresh bytes is 0
  *   number 10   out_len is below 256
  *     These three are faults of the platform. Their status is 0 and is not
  *     sent; put it right and call again.
@@ -500,62 +562,68 @@ typedef struct plaid_written {
 plaid_written plaid_list(plaid_ids of, uint8_t *out, size_t out_len);
 
 typedef struct plaid_opened {
-    uint8_t number;                     /* 0, or 14 or 15 */
+    uint8_t number;                     /* 0; 14, 15, 21 */
     size_t place;                       /* of the winner, counted from 0 */
     plaid_key_set_id id;                /* its KeySetID */
     uint8_t div_data[PLAID_DIV_DATA];   /* the card's DivData */
-    uint8_t rnd1[PLAID_RND];            /* the card's RND1 */
+    plaid_value rnd1;                   /* the card's RND1, L bytes */
 } plaid_opened;
 
 /*
  * Open: finds the key set of a card's answer to the initial command.
  *
- * In: the same KeySetIDs as List got; and one decrypted block of 256 bytes for
- * each of them, in their order, one behind the other (see "What the platform
- * lends").
+ * In: L, which is the card's too; the same KeySetIDs as List got; and one
+ * decrypted block of 256 bytes for each of them, in their order, one behind the
+ * other (see "What the platform lends").
  *
  * Back: number 0; the place, KeySetID, DivData and RND1 of the first block
- * that opens. A block opens if it is 00 02, 203 bytes that are not 0, 00, and
- * 50 bytes whose KeySetID is that entry's and whose two RND1 are equal. Every
- * block is examined.
+ * that opens. A block opens if it is 00 02, 203, 187 or 171 bytes that are not
+ * 0, 00, and 50, 66 or 82 bytes whose KeySetID is that entry's and whose two
+ * RND1 are equal. Every block is examined.
  *
  * Declines, in the order in which they are tested:
+ *   21  key_length is not 16, 24 or 32
  *   14  count is 0, or over 16; or blocks_len is not 256 count
- *   15  no block opens: the card holds no listed key set, or is none of ours.
- *       Which of the two, the answer does not tell
+ *   15  no block opens: the card holds no listed key set, has another L, or is
+ *       none of ours. Which of these, the answer does not tell
  *
  * Written: nothing.
  */
-plaid_opened plaid_open(plaid_ids of, const uint8_t *blocks, size_t blocks_len);
+plaid_opened plaid_open(size_t key_length, plaid_ids of,
+                        const uint8_t *blocks, size_t blocks_len);
 
 /* What Seal is given beside the payload. */
 typedef struct plaid_sealing {
-    uint8_t fa_key[PLAID_KEY];          /* of the key set that Open found */
+    size_t key_length;                  /* L, as Open got it */
+    plaid_value fa_key;                 /* of the key set that Open found */
     uint8_t div_data[PLAID_DIV_DATA];   /* as Open gave it */
-    uint8_t rnd1[PLAID_RND];            /* as Open gave it */
-    uint8_t rnd2[PLAID_RND];            /* fresh: new for each session */
+    plaid_value rnd1;                   /* as Open gave it */
+    plaid_value rnd2;                   /* L fresh bytes, new each session */
     plaid_op_mode_id mode;              /* whose record is wanted */
 } plaid_sealing;
 
 typedef struct plaid_sealed {
-    uint8_t number;                     /* 0, or 16 or 17 */
+    uint8_t number;                     /* 0; 16, 17, 21, 22 */
     size_t length;                      /* of the command */
-    uint8_t keys_hash[PLAID_KEYS_HASH]; /* for this session's Accept */
+    plaid_value keys_hash;              /* for this session's Accept */
 } plaid_sealed;
 
 /*
- * Seal: makes the final command for a mode, with a payload of 0 to 205 bytes.
+ * Seal: makes the final command for a mode, with a payload of 0 to 205, 189 or
+ * 173 bytes.
  *
- * Back: number 0; the command's length, Lc + 6; and KeysHash, the first 16
- * bytes of SHA-256 over RND1 and RND2. STR2 is OpModeID, RND2, payload,
- * KeysHash and padding, so Lc = 16 (floor((34 + payload_len) / 16) + 1), from
- * 48 to 240.
+ * Back: number 0; the command's length, Lc + 6; and KeysHash, the first L bytes
+ * of SHA-256 over RND1 and RND2. STR2 is OpModeID, RND2, payload, KeysHash and
+ * padding, so Lc = 16 (floor((2 + 2 L + payload_len) / 16) + 1), from 48, 64 or
+ * 80 to 240.
  *
  * KeysHash is the session's key. Give it to this session's Accept and to no
  * other; never seal twice with one RND2.
  *
  * Declines, in the order in which they are tested:
- *   16  payload_len is over 205
+ *   21  key_length is not 16, 24 or 32
+ *   22  FAKey, RND1 or RND2 is not of L bytes
+ *   16  payload_len is over 205, 189 or 173
  *   17  out_len is below Lc + 6
  *
  * Written: the command, and no byte behind it. After a decline nothing.
@@ -566,23 +634,24 @@ plaid_sealed plaid_seal(plaid_sealing of,
 
 /* What Accept is given beside the response. */
 typedef struct plaid_accepting {
-    uint8_t keys_hash[PLAID_KEYS_HASH]; /* as Seal gave it */
+    size_t key_length;                  /* L, as Seal got it */
+    plaid_value keys_hash;              /* as Seal gave it */
     uint8_t div_data[PLAID_DIV_DATA];   /* as Open gave it */
     size_t record_length;               /* of the mode's record; any number */
 } plaid_accepting;
 
 typedef struct plaid_accepted {
-    uint8_t number;                     /* 0, or 18 to 20 */
+    uint8_t number;                     /* 0; 18 to 22 */
     size_t length;                      /* of the record; 0 after a decline */
 } plaid_accepted;
 
 /*
  * Accept: checks a card's answer to the final command, and gives the record.
  *
- * In: the answer without its status, 32, 48, 64, 80 or 96 bytes; a work buffer
- * at least as long; and in record_length how long the record is on the card, of
- * the mode that Seal asked for. Any record_length is taken, and one that no
- * answer can have is declined.
+ * In: L and KeysHash; the answer without its status, 32, 48, 64, 80 or 96
+ * bytes, whatever L is; a work buffer at least as long; and in record_length
+ * how long the record is on the card, of the mode that Seal asked for. Any
+ * record_length is taken, and one that no answer can have is declined.
  *
  * Back: number 0 and the record's length, 1 to 64, which is record_length. The
  * record is the first record_length bytes of the work buffer; plaid_record says
@@ -597,6 +666,8 @@ typedef struct plaid_accepted {
  * but within the filler hands back zeros behind it, both with number 0.
  *
  * Declines, in the order in which they are tested:
+ *   21  key_length is not 16, 24 or 32
+ *   22  KeysHash is not of L bytes: that of a Seal that was declined too
  *   18  response_len is not 32, 48, 64, 80 or 96. To the reader a failed
  *       authentication like 20: another maker's card may refuse with an
  *       answer of any length
@@ -609,7 +680,7 @@ typedef struct plaid_accepted {
  *
  * Written: the first response_len bytes of the work buffer and no others. They
  * are the deciphered answer: record, filler, DivData and padding. After 20 they
- * are zeros. After 18 and 19 nothing is written.
+ * are zeros. After 18, 19, 21 and 22 nothing is written.
  */
 plaid_accepted plaid_accept(plaid_accepting of,
                             const uint8_t *response, size_t response_len,

@@ -1,6 +1,6 @@
 /*
  * A bench on which a card and a reader hold one session. The bench keeps what goes over the line. Beside the card stands another one, with
- * other keys and records but the same shill keys and reply size, which gets the same commands and, as an experiment, the same fresh bytes.
+ * other keys and records but the same shill keys, L and reply size, which gets the same commands and, as an experiment, the same fresh bytes.
  */
 #ifndef BENCH_H
 #define BENCH_H
@@ -16,7 +16,8 @@ typedef struct {
     card_reply reply;
     size_t answer_len;  /* without the status */
     bool as_other_card; /* the other card sent the same bytes */
-    bool in_session;    /* the card has an open session behind it */
+    bool in_session;    /* the card has an open session behind it, */
+    plaid_key_set_id set; /* of this key set */
 } bench_exchange;
 
 /* How a session goes wrong; with nothing set it does not. */
@@ -26,6 +27,9 @@ typedef struct {
     bool unknown_mode;
     bool damage;       /* a bit of the final command's last block */
     bool wrong_length; /* the reader takes the record for longer than what the card sends before DivData */
+    bool other_length; /* the reader has another L, and the keys to it */
+    bool no_length;    /* the reader's L is none of the three */
+    bool short_key;    /* the reader's FAKey has a byte too few */
 } bench_fault;
 
 typedef struct {
@@ -42,11 +46,21 @@ typedef struct {
 /* Loads the RSA keys of the cards and the readers. False where one is not there. */
 bool bench_keys(void);
 
-/* Runs a session for a mode. False where a load was declined or the platform failed. */
-bool bench_run(bench *b, const example_mode *mode, bench_fault fault);
+/* Runs a session for a mode, with keys of so many bytes. False where a load was declined or the platform failed. */
+bool bench_run(bench *b, size_t key_length, const example_mode *mode, bench_fault fault);
 
 /* The same with nothing wrong, and the list of another maker's reader in the place of ours: the same KeySetIDs, other forms of length. */
-bool bench_run_other_list(bench *b, const example_mode *mode);
+bool bench_run_other_list(bench *b, size_t key_length, const example_mode *mode);
+
+/* What the library has to decline by 21 or 22, one call for each. */
+typedef struct {
+    const char *function, *given;
+    uint8_t number, wanted;
+} bench_decline;
+
+/* Tries them, with all else as in a session that went well. Returns how many. */
+#define BENCH_DECLINES 10
+size_t bench_decline_all(const bench *good, bench_decline to[BENCH_DECLINES]);
 
 /* Erases it. */
 void bench_forget(bench *b);

@@ -1,7 +1,10 @@
 /*
  * A card: reads commands from standard input, a line of hexadecimal bytes for each, and answers each with a line of its bytes and status.
  *
- *   card [KEYS]      KEYS: the folder of RSA keys; none: the stand-in, which standard error names
+ *   card [-LBYTES] [KEYS]
+ *
+ *   BYTES    the key length L: 16, which is the default, 24 or 32; the reader has to have the same
+ *   KEYS     the folder of RSA keys; none: the stand-in, which standard error names
  *
  * Every line gets an answer, so that no reader waits for one. Where the platform fails it is 6F00. A line that is no hexadecimal, or has
  * half a byte, is no command: 6700, and the card stays as it was. One of over 261 bytes is a command with a fault, and gets its status.
@@ -53,14 +56,16 @@ static bool serve_all(plaid_card *card)
 
 int main(int argc, char **argv)
 {
-    if (argc > 2 || (argc == 2 && (argv[1][0] == '-' || !argv[1][0]))) {
-        fprintf(stderr, "usage: card [KEYS] <commands >answers, a line of hexadecimal bytes each; KEYS: a folder of make-keys\n");
+    size_t key_length;
+    if (!example_key_length(&argc, &argv, &key_length) || argc > 2 || (argc == 2 && (argv[1][0] == '-' || !argv[1][0]))) {
+        fprintf(stderr, "usage: card [-L16 | -L24 | -L32] [KEYS] <commands >answers, a line of hexadecimal bytes each\n"
+                        "-L: the key length, 16 where it is not given; KEYS: a folder of make-keys\n");
         return 2;
     }
     platform_open(argc > 1 ? argv[1] : NULL);
     if (platform_is_stand_in())
         fprintf(stderr, "card: %s\n", platform_rsa());
-    plaid_loaded loaded = example_card();
+    plaid_loaded loaded = example_card(key_length);
     plaid_card card = loaded.card;
     int number = loaded.number;
     platform_erase(&loaded, sizeof loaded);

@@ -54,7 +54,7 @@ void card_answer(plaid_card *card, const uint8_t *command, size_t command_len, c
 void card_serve(plaid_card *card, const uint8_t *command, size_t command_len, card_reply *reply)
 {
     uint8_t fresh[PLAID_FRESH];
-    if (platform_fresh(fresh)) {
+    if (platform_fresh(fresh, card->key_length)) {
         card_answer(card, command, command_len, fresh, reply);
     } else {
         memset(reply, 0, sizeof *reply);

@@ -38,7 +38,7 @@ bool card_keys(const plaid_card *card);
  */
 void card_answer(plaid_card *card, const uint8_t *command, size_t command_len, const uint8_t fresh[PLAID_FRESH], card_reply *reply);
 
-/* The same with fresh bytes of its own, which are erased. Without any the card stays as it was. */
+/* The same with fresh bytes of its own, for the card's L, which are erased. Without any the card stays as it was. */
 void card_serve(plaid_card *card, const uint8_t *command, size_t command_len, card_reply *reply);
 
 #endif

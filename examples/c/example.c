@@ -1,10 +1,11 @@
 #include "example.h"
 #include "platform.h"
 
+#include <stdio.h>
 #include <string.h>
 
 #define DIV_DATA "CARD-00000004711"
-#define SHILL_KEY "the shill key 16"
+#define SHILL_KEY "the shill key 16 of 24, 32 bytes"
 #define SHILL_HANDLE 0x1F
 
 /* The records, one behind the other: facility 21, number 4711, with its two parity bits; and a UUID. */
@@ -13,20 +14,58 @@ static const uint8_t records[] = {
     0xF8, 0x1D, 0x4F, 0xAE, 0x7D, 0xEC, 0x11, 0xD0, 0xA7, 0x65, 0x00, 0xA0, 0xC9, 0x1E, 0x6B, 0xF6,
 };
 
-static const plaid_key_set card_sets[] = {
-    {{0x0102}, 0x11, "FAKey of set 102"},
-    {{0x0203}, 0x12, "FAKey of set 203"},
-};
+/* The keys have 32 bytes here, of which an end with a shorter L takes the first. A product draws each key by itself. */
+#define SET_102 {{0x0102}, 0x11, {32, "FAKey of set 102 of 24, 32 bytes"}}
+#define SET_203 {{0x0203}, 0x12, {32, "FAKey of set 203 of 24, 32 bytes"}}
+#define SET_301 {{0x0301}, 0x21, {32, "FAKey of set 301 of 24, 32 bytes"}}
+#define SET_302 {{0x0302}, 0x22, {32, "FAKey of set 302 of 24, 32 bytes"}}
+#define SET_7777 {{0x7777}, 0x12, {32, "FAKey of set 777 of 24, 32 bytes"}}
 
-const plaid_key_set example_reader[EXAMPLE_READER_SETS] = {
-    {{0x0301}, 0x21, "FAKey of set 301"},
-    {{0x0102}, 0x11, "FAKey of set 102"},
-};
+/* A value of L bytes: the first of its 32, with zeros behind them. */
+static void shorten(plaid_value *value, size_t key_length)
+{
+    for (size_t i = key_length; i < PLAID_VALUE_MOST; i++)
+        value->bytes[i] = 0;
+    value->length = (uint8_t)key_length;
+}
 
-const plaid_key_set example_strange_reader[EXAMPLE_READER_SETS] = {
-    {{0x0301}, 0x21, "FAKey of set 301"},
-    {{0x0302}, 0x22, "FAKey of set 302"},
-};
+static void shorten_sets(plaid_key_set *sets, size_t count, size_t key_length)
+{
+    for (size_t i = 0; i < count; i++)
+        shorten(&sets[i].fa_key, key_length);
+}
+
+void example_reader(size_t key_length, plaid_key_set to[EXAMPLE_READER_SETS])
+{
+    static const plaid_key_set sets[EXAMPLE_READER_SETS] = {SET_301, SET_102};
+    memcpy(to, sets, sizeof sets);
+    shorten_sets(to, EXAMPLE_READER_SETS, key_length);
+}
+
+void example_strange_reader(size_t key_length, plaid_key_set to[EXAMPLE_READER_SETS])
+{
+    static const plaid_key_set sets[EXAMPLE_READER_SETS] = {SET_301, SET_302};
+    memcpy(to, sets, sizeof sets);
+    shorten_sets(to, EXAMPLE_READER_SETS, key_length);
+}
+
+bool example_key_length(int *argc, char ***argv, size_t *key_length)
+{
+    const char *flag = *argc > 1 ? (*argv)[1] : "";
+    *key_length = EXAMPLE_KEY_LENGTH;
+    if (flag[0] != '-')
+        return true;
+    for (*key_length = 16; *key_length <= 32; *key_length += 8) {
+        char known[8];
+        snprintf(known, sizeof known, "-L%u", (unsigned)*key_length);
+        if (strcmp(flag, known) == 0) {
+            ++*argv;
+            --*argc;
+            return true;
+        }
+    }
+    return false;
+}
 
 const example_mode example_wiegand = {{0x0007}, 4, "a Wiegand number"};
 const example_mode example_uuid = {{0x0008}, 16, "a UUID"};
@@ -41,36 +80,43 @@ const example_mode *example_mode_of(plaid_op_mode_id id)
     return NULL;
 }
 
-/* DivData and shill keys; no modes yet. */
-static plaid_given given(const char *div_data)
+/* L, DivData and shill keys; no modes yet. */
+static plaid_given given(size_t key_length, const char *div_data)
 {
     plaid_given g;
     memset(&g, 0, sizeof g);
+    g.key_length = key_length;
     memcpy(g.div_data, div_data, PLAID_DIV_DATA);
-    memcpy(g.shill_key, SHILL_KEY, PLAID_KEY);
+    memcpy(g.shill_key.bytes, SHILL_KEY, PLAID_VALUE_MOST);
+    shorten(&g.shill_key, key_length);
     g.shill_handle = SHILL_HANDLE;
     return g;
 }
 
-plaid_loaded example_card(void)
+plaid_loaded example_card(size_t key_length)
 {
-    plaid_given g = given(DIV_DATA);
+    plaid_key_set sets[] = {SET_102, SET_203};
+    plaid_given g = given(key_length, DIV_DATA);
+    shorten_sets(sets, 2, key_length);
     g.modes[0] = (plaid_mode){example_wiegand.id, 0, example_wiegand.record_length};
     g.modes[1] = (plaid_mode){example_uuid.id, example_wiegand.record_length, example_uuid.record_length};
     g.mode_count = 2;
-    plaid_loaded loaded = plaid_load(card_sets, 2, g, records, sizeof records);
+    plaid_loaded loaded = plaid_load(sets, 2, g, records, sizeof records);
     platform_erase(&g, sizeof g);
+    platform_erase(sets, sizeof sets);
     return loaded;
 }
 
-plaid_loaded example_other_card(void)
+plaid_loaded example_other_card(size_t key_length)
 {
     static const uint8_t area[] = "another card's record!";
-    static const plaid_key_set set = {{0x7777}, 0x12, "FAKey of set 777"};
-    plaid_given g = given("CARD-99999999999");
+    plaid_key_set set = SET_7777;
+    plaid_given g = given(key_length, "CARD-99999999999");
+    shorten_sets(&set, 1, key_length);
     g.modes[0] = (plaid_mode){{0x0077}, 0, 22};
     g.mode_count = 1;
     plaid_loaded loaded = plaid_load(&set, 1, g, area, 22);
     platform_erase(&g, sizeof g);
+    platform_erase(&set, sizeof set);
     return loaded;
 }

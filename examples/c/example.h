@@ -4,18 +4,24 @@
 
 #include "plaid.h"
 
-/* The card: key sets 0102 and 0203; mode 0007 with a Wiegand number of 4 bytes, mode 0008 with a UUID of 16. */
-plaid_loaded example_card(void);
+/* L where no other is asked for. Both ends need the same. */
+#define EXAMPLE_KEY_LENGTH 16
 
-/* Another card with the same shill keys and reply size: other key set, other mode, other record of another length. */
-plaid_loaded example_other_card(void);
+/* Takes -L16, -L24 or -L32 off the front of a program's arguments. False where another flag stands there. */
+bool example_key_length(int *argc, char ***argv, size_t *key_length);
+
+/* The card: key sets 0102 and 0203; mode 0007 with a Wiegand number of 4 bytes, mode 0008 with a UUID of 16. */
+plaid_loaded example_card(size_t key_length);
+
+/* Another card with the same shill keys, L and reply size: other key set, other mode, other record of another length. */
+plaid_loaded example_other_card(size_t key_length);
 
 /* The reader's key sets in order of preference, 0301 and 0102; the handle names its private RSA key. */
 #define EXAMPLE_READER_SETS 2
-extern const plaid_key_set example_reader[EXAMPLE_READER_SETS];
+void example_reader(size_t key_length, plaid_key_set to[EXAMPLE_READER_SETS]);
 
 /* A reader that has no set in common with the card: 0301 and 0302. */
-extern const plaid_key_set example_strange_reader[EXAMPLE_READER_SETS];
+void example_strange_reader(size_t key_length, plaid_key_set to[EXAMPLE_READER_SETS]);
 
 /* A mode as the reader knows it. No answer says how long its record is. */
 typedef struct {

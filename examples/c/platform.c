@@ -71,11 +71,11 @@ bool platform_random(uint8_t *to, size_t count)
     return backend_random(to, count);
 }
 
-bool platform_fresh(uint8_t fresh[PLAID_FRESH])
+bool platform_fresh(uint8_t fresh[PLAID_FRESH], size_t key_length)
 {
     if (!backend_random(fresh, PLAID_FRESH))
         return false;
-    for (size_t i = PLAID_FRESH_ANY; i < PLAID_FRESH; i++)
+    for (size_t i = PLAID_FRESH_ANY(key_length); i < PLAID_FRESH; i++)
         while (fresh[i] == 0)
             if (!backend_random(&fresh[i], 1))
                 return false;

@@ -23,9 +23,9 @@ bool platform_is_stand_in(void);
 const char *platform_rsa(void);
 const char *platform_source(void);
 
-/* Random bytes; and fresh bytes for one command call, whose pad bytes are not 0. False where there are none. */
+/* Random bytes; and fresh bytes for one command call of a card with this L, whose pad bytes are not 0. False where there are none. */
 bool platform_random(uint8_t *to, size_t count);
-bool platform_fresh(uint8_t fresh[PLAID_FRESH]);
+bool platform_fresh(uint8_t fresh[PLAID_FRESH], size_t key_length);
 
 /* RSA without padding, in place, by the public key that the handle names. False where it failed. */
 bool platform_encrypt(uint8_t handle, uint8_t block[PLAID_BLOCK]);

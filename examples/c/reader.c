@@ -2,12 +2,13 @@
  * A reader: writes its commands to standard output and reads the card's answers from standard input, each a line of hexadecimal bytes.
  * The record goes to standard error, as such bytes too, or why there is none.
  *
- *   reader MODE[:LENGTH] [KEYS [FAKEY]]
+ *   reader [-LBYTES] MODE[:LENGTH] [KEYS [FAKEY]]
  *
+ *   BYTES    the key length L: 16, which is the default, 24 or 32; the card has to have the same, or the reader ends with 15
  *   MODE     OpModeID, 4 digits
  *   LENGTH   how many bytes the mode's record has, in decimal; needed where MODE is none of the examples' modes, whose lengths are known
  *   KEYS     the folder of RSA keys; '' or none: the stand-in, which standard error names
- *   FAKEY    32 digits, in the place of the example's key of set 0102; for tests, since others on the machine may see it
+ *   FAKEY    two digits for each of L bytes, in the place of the example's key of set 0102; for tests, since others on the machine may see it
  *
  * Exit status: 0 with a record; 1 where the library declined, whose number is told; 2 usage; 101 to 106 the fault that is told
  * (reader_end.h). An answer that is no hexadecimal is named with its line's number and ends the session: fault 102.
@@ -39,9 +40,9 @@ static long exchange(void *line, const uint8_t *command, size_t command_len, uin
 
 static int usage(void)
 {
-    fprintf(stderr, "usage: reader MODE[:LENGTH] [KEYS [FAKEY]] >commands <answers, a line of hexadecimal bytes each\n"
-                    "MODE: 4 hexadecimal digits; LENGTH: of its record, in decimal, for a mode that is none of the examples';\n"
-                    "KEYS: a folder of make-keys, or ''; FAKEY: 32 digits\n");
+    fprintf(stderr, "usage: reader [-L16 | -L24 | -L32] MODE[:LENGTH] [KEYS [FAKEY]] >commands <answers, a line of hexadecimal bytes each\n"
+                    "-L: the key length, 16 where it is not given; MODE: 4 hexadecimal digits; LENGTH: of its record, in decimal, for a\n"
+                    "mode that is none of the examples'; KEYS: a folder of make-keys, or ''; FAKEY: 32, 48 or 64 digits\n");
     return 2;
 }
 
@@ -89,10 +90,12 @@ int main(int argc, char **argv)
 {
     long line = 0;
     plaid_key_set sets[EXAMPLE_READER_SETS];
-    reader_plan plan = {sets, EXAMPLE_READER_SETS, {0}, 0, (const uint8_t *)"", 0, exchange, &line};
-    memcpy(sets, example_reader, sizeof sets);
+    reader_plan plan = {0, sets, EXAMPLE_READER_SETS, {0}, 0, (const uint8_t *)"", 0, exchange, &line};
+    if (!example_key_length(&argc, &argv, &plan.key_length))
+        return usage();
+    example_reader(plan.key_length, sets);
     if (argc < 2 || argc > 4 || !take_mode(argv[1], &plan) || (argc > 2 && argv[2][0] == '-')
-        || (argc > 3 && hex_bytes(argv[3], sets[1].fa_key, PLAID_KEY) != PLAID_KEY))
+        || (argc > 3 && hex_bytes(argv[3], sets[1].fa_key.bytes, plan.key_length) != (long)plan.key_length))
         return usage();
     if (argc > 3)
         platform_erase(argv[3], strlen(argv[3]));

@@ -46,7 +46,7 @@ static int open_answer(const reader_plan *plan, const uint8_t answer[PLAID_BLOCK
         memcpy(blocks[i], answer, PLAID_BLOCK);
         all &= platform_decrypt(plan->sets[i].handle, blocks[i]);
     }
-    *opened = plaid_open(ids_of(plan), blocks[0], plan->set_count * PLAID_BLOCK);
+    *opened = plaid_open(plan->key_length, ids_of(plan), blocks[0], plan->set_count * PLAID_BLOCK);
     platform_erase(blocks, sizeof blocks);
     return opened->number == PLAID_DECLINE_NONE_OPENS && !all ? READER_NO_RSA : opened->number;
 }
@@ -67,7 +67,8 @@ static int initial(const reader_plan *plan, reader_session *s)
 static int accept_answer(const reader_plan *plan, reader_session *s, const uint8_t *answer, size_t length)
 {
     plaid_accepting accepting;
-    memcpy(accepting.keys_hash, s->sealed.keys_hash, PLAID_KEYS_HASH);
+    accepting.key_length = plan->key_length;
+    accepting.keys_hash = s->sealed.keys_hash;
     memcpy(accepting.div_data, s->opened.div_data, PLAID_DIV_DATA);
     accepting.record_length = plan->record_length;
     s->accepted = plaid_accept(accepting, answer, length, s->work, sizeof s->work);
@@ -80,11 +81,13 @@ static int final(const reader_plan *plan, reader_session *s)
 {
     uint8_t command[PLAID_FINAL_COMMAND_MOST], answer[PLAID_ANSWER_FINAL_MOST + 2];
     size_t length;
-    memcpy(s->sealing.fa_key, plan->sets[s->opened.place].fa_key, PLAID_KEY);
+    s->sealing.key_length = plan->key_length;
+    s->sealing.fa_key = plan->sets[s->opened.place].fa_key;
     memcpy(s->sealing.div_data, s->opened.div_data, PLAID_DIV_DATA);
-    memcpy(s->sealing.rnd1, s->opened.rnd1, PLAID_RND);
+    s->sealing.rnd1 = s->opened.rnd1;
+    s->sealing.rnd2.length = s->opened.rnd1.length; /* L */
     s->sealing.mode = plan->mode;
-    if (!platform_random(s->sealing.rnd2, PLAID_RND))
+    if (!platform_random(s->sealing.rnd2.bytes, s->sealing.rnd2.length))
         return READER_NO_RANDOM;
     s->sealed = plaid_seal(s->sealing, plan->payload, plan->payload_len, command, sizeof command);
     if (s->sealed.number != PLAID_DONE)

@@ -9,6 +9,7 @@ typedef long reader_exchange(void *line, const uint8_t *command, size_t command_
 
 /* What the reader wants, and how it reaches the card. */
 typedef struct {
+    size_t key_length;         /* L, the card's too: 16, 24 or 32 */
     const plaid_key_set *sets; /* in order of preference; a handle names the platform's private RSA key */
     size_t set_count;          /* 1 to 16 */
     plaid_op_mode_id mode;

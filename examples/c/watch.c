@@ -1,7 +1,7 @@
 /*
  * Sessions to watch: a card and a reader on the bench, for each of the card's two records, each message with its fields in words; one that
- * another maker's list opens; then one refused session of each kind, as a stranger sees it and as the key holder sees it. Exit status 1
- * where something was not as expected.
+ * another maker's list opens; one with keys of 24 bytes, one with keys of 32; then one refused session of each kind, as a stranger sees it
+ * and as the key holder sees it; and what the library declines for its lengths. Exit status 1 where something was not as expected.
  *
  *   watch [KEYS]      KEYS: the folder of RSA keys; none: the stand-in, which the output names
  */
@@ -11,7 +11,8 @@
 #include <stdio.h>
 #include <string.h>
 
-#define ROW 24 /* bytes to a row */
+#define ROW 24   /* bytes to a row */
+#define PIECE 16 /* of a field */
 
 static void show_bytes(const uint8_t *bytes, size_t count)
 {
@@ -31,11 +32,21 @@ static void show_rows(const uint8_t *bytes, size_t count)
 /* A field: its name, its bytes, and what it says. */
 static void show_field(const char *name, const uint8_t *bytes, size_t count, const char *note)
 {
+    for (; count > PIECE; bytes += PIECE, count -= PIECE, name = "") {
+        printf("    %-10s  ", name);
+        show_bytes(bytes, PIECE);
+        printf("\n");
+    }
     printf("    %-10s  ", name);
     show_bytes(bytes, count);
     if (note[0])
         printf("%*s%s", count < 5 ? (int)(14 - 3 * count) : 2, "", note);
     printf("\n");
+}
+
+static void show_value(const char *name, const plaid_value *value)
+{
+    show_field(name, value->bytes, value->length, "");
 }
 
 static void show_card(const plaid_card *card)
@@ -47,7 +58,7 @@ static void show_card(const plaid_card *card)
     printf("\n    modes       ");
     for (size_t i = 0; i < PLAID_CARD_MODES && card->modes[i].held; i++)
         printf("%s%04X (record of %zu bytes)", i > 0 ? ", " : "", card->modes[i].id.value, card->modes[i].len);
-    printf("\n");
+    printf("\n    key length  L = %zu: FAKeys, shill key, RND1, RND2 and KeysHash have %zu bytes\n", card->key_length, card->key_length);
     show_field("DivData", card->div_data, PLAID_DIV_DATA, "");
     printf("    shill keys  RSA key %02X and an AES key, for answers to strangers\n", card->shill_handle);
     printf("    reply size  %zu blocks: every final answer has %zu bytes, and a record of\n", card->reply_size, 16 * card->reply_size);
@@ -109,7 +120,7 @@ static void show_opened(const bench *b)
     for (size_t i = 0; i <= o->place; i++)
         printf("    entry %zu     KeySetID %04X  %s\n", i, b->sets[i].id.value, i < o->place ? "does not open" : "opens, so this set wins");
     show_field("DivData", o->div_data, PLAID_DIV_DATA, "");
-    show_field("RND1", o->rnd1, PLAID_RND, "");
+    show_value("RND1", &o->rnd1);
 }
 
 static void show_final(const bench *b)
@@ -120,10 +131,10 @@ static void show_final(const bench *b)
     show_command(x, "final");
     printf("    data        STR2, enciphered under the card's diversified key:\n");
     printf("    - OpModeID  %04X\n", of->mode.value);
-    show_field("- RND2", of->rnd2, PLAID_RND, "");
+    show_value("- RND2", &of->rnd2);
     printf("    - payload   %zu bytes: %.*s\n", b->plan.payload_len, (int)b->plan.payload_len, (const char *)b->plan.payload);
-    show_field("- KeysHash", b->session.sealed.keys_hash, PLAID_KEYS_HASH, "");
-    printf("    - padding   80 and %zu bytes 00\n", x->command[4] - (2 + PLAID_RND + b->plan.payload_len + PLAID_KEYS_HASH) - 1);
+    show_value("- KeysHash", &b->session.sealed.keys_hash);
+    printf("    - padding   80 and %zu bytes 00\n", x->command[4] - (2 + 2 * of->key_length + b->plan.payload_len) - 1);
     show_field("Le", x->command + x->command_len - 1, 1, "");
 }
 
@@ -182,12 +193,17 @@ static bool record_is(const bench *b, const example_mode *mode)
         && memcmp(b->session.work + b->session.record.start, b->card.area + slot->start, slot->len) == 0;
 }
 
+/* What the card sends is as long, and its status 9000. */
+static bool answered_alike(const bench *a, const bench *b)
+{
+    return a->initial.answer_len == b->initial.answer_len && a->final.answer_len == b->final.answer_len
+        && a->initial.reply.told.status == PLAID_ANSWER_OK && a->final.reply.told.status == PLAID_ANSWER_OK;
+}
+
 /* What a stranger can tell two sessions by is the same, from the card's first answer on. */
 static bool alike_behind_the_list(const bench *a, const bench *b)
 {
-    return a->initial.answer_len == b->initial.answer_len && a->final.command_len == b->final.command_len
-        && a->final.answer_len == b->final.answer_len && a->initial.reply.told.status == PLAID_ANSWER_OK
-        && a->final.reply.told.status == PLAID_ANSWER_OK;
+    return a->final.command_len == b->final.command_len && answered_alike(a, b);
 }
 
 static bool alike_on_the_line(const bench *a, const bench *b)
@@ -195,12 +211,20 @@ static bool alike_on_the_line(const bench *a, const bench *b)
     return a->initial.command_len == b->initial.command_len && alike_behind_the_list(a, b);
 }
 
-static bool watch_good(bench *b, const example_mode *mode)
+/* A session that yields the record, in full. */
+static bool watch_good(bench *b, size_t key_length, const example_mode *mode)
 {
     static const bench_fault none;
-    if (!bench_run(b, mode, none) || b->number != PLAID_DONE || !record_is(b, mode))
+    if (!bench_run(b, key_length, mode, none) || b->number != PLAID_DONE || !record_is(b, mode)
+        || b->final.command_len != PLAID_FINAL_COMMAND_LEAST(key_length))
         return false;
-    printf("\nSESSION FOR MODE %04X: %s, %zu bytes\n", mode->id.value, mode->name, mode->record_length);
+    if (key_length == EXAMPLE_KEY_LENGTH) {
+        printf("\nSESSION FOR MODE %04X: %s, %zu bytes\n", mode->id.value, mode->name, mode->record_length);
+    } else {
+        printf("\nSESSION WITH KEYS OF %zu BYTES: mode %04X\n", key_length, mode->id.value);
+        printf("    Both ends have L = %zu: a rule of this house, that no other maker's end has.\n", key_length);
+        printf("    The diversified key is made of two enciphered blocks and not of one.\n");
+    }
     show_initial(b);
     show_opened(b);
     show_final(b);
@@ -226,18 +250,24 @@ static void show_exchange(const bench_exchange *x)
     show_message("card", x->reply.bytes, x->answer_len, x->reply.told.status);
 }
 
+/* What Open gave, where it declined. */
+static const char *open_words(int number)
+{
+    return number == PLAID_DECLINE_KEY_LENGTH ? "its L is none of the three" : "no block opens";
+}
+
 /* What the key holder sees of the initial command. */
 static void explain_initial(const bench *b)
 {
     const plaid_opened *o = &b->session.opened;
     if (b->initial.in_session)
-        printf("    card     holds set %04X: RSA key %02X, session open\n", o->id.value, b->initial.reply.told.handle);
+        printf("    card     holds set %04X: RSA key %02X, session open\n", b->initial.set.value, b->initial.reply.told.handle);
     else
         printf("    card     holds none of the sets: shill RSA key %02X, no session\n", b->initial.reply.told.handle);
     if (o->number == PLAID_DONE)
         printf("    reader   Open finds entry %zu, set %04X\n", o->place, o->id.value);
     else
-        printf("    reader   Open gives %d: no block opens\n", o->number);
+        printf("    reader   Open gives %d: %s\n", o->number, open_words(o->number));
 }
 
 /* A session that another maker's list opens: the list in full, and of the rest what the key holder sees. */
@@ -245,7 +275,7 @@ static bool watch_other_list(const bench *good)
 {
     static bench b;
     const example_mode *mode = &example_wiegand;
-    bool ok = bench_run_other_list(&b, mode) && b.number == PLAID_DONE && b.initial.in_session && record_is(&b, mode)
+    bool ok = bench_run_other_list(&b, EXAMPLE_KEY_LENGTH, mode) && b.number == PLAID_DONE && b.initial.in_session && record_is(&b, mode)
         && alike_behind_the_list(&b, good);
     if (ok) {
         printf("\nSESSION WITH ANOTHER MAKER'S LIST: mode %04X, the same KeySetIDs\n", mode->id.value);
@@ -284,17 +314,24 @@ typedef struct {
     int number;
 } refusal;
 
+static void show_refused(const bench *b, const refusal *of)
+{
+    printf("\nREFUSED: %s\n  as a stranger sees it\n", of->title);
+    show_exchange(&b->initial);
+    show_exchange(&b->final);
+    printf("  as the key holder sees it\n");
+    explain_initial(b);
+    explain_final(b, of->cause);
+}
+
+/* Runs it for the L of a good session, and shows it where L is the examples'. */
 static bool watch_refused(const bench *good, const refusal *of)
 {
     static bench b;
-    if (!bench_run(&b, &example_wiegand, of->fault))
+    if (!bench_run(&b, good->card.key_length, &example_wiegand, of->fault))
         return false;
-    printf("\nREFUSED: %s\n  as a stranger sees it\n", of->title);
-    show_exchange(&b.initial);
-    show_exchange(&b.final);
-    printf("  as the key holder sees it\n");
-    explain_initial(&b);
-    explain_final(&b, of->cause);
+    if (good->card.key_length == EXAMPLE_KEY_LENGTH)
+        show_refused(&b, of);
     bool expected = b.number == of->number && b.final.as_other_card == of->card_refuses && !b.card.session.opened
         && b.session.record.length == 0 && alike_on_the_line(&b, good);
     bench_forget(&b);
@@ -303,6 +340,9 @@ static bool watch_refused(const bench *good, const refusal *of)
 
 static const refusal refusals[] = {
     {"no key set in common", {.no_common_set = true}, "stops; the bench sends random bytes as a final command", true, 15},
+    {"another key length", {.other_length = true}, "has L = 24 and stops; the bench sends random bytes as final command", true, 15},
+    {"a key length that is none", {.no_length = true}, "has L = 20 and stops; the bench sends random bytes as final command", true, 21},
+    {"a FAKey that is not of L bytes", {.short_key = true}, "Seal gives 22: FAKey has 15 bytes; the bench sends random bytes", true, 22},
     {"wrong FAKey", {.wrong_key = true}, "Seal, under a FAKey that differs in one bit", true, 20},
     {"unknown mode", {.unknown_mode = true}, "Seal, for mode 0BAD, which the card does not hold", true, 20},
     {"damaged padding", {.damage = true}, "Seal; a bit of the last block flips on the line: padding lost", true, 20},
@@ -310,23 +350,53 @@ static const refusal refusals[] = {
 };
 #define REFUSALS (sizeof refusals / sizeof refusals[0])
 
-static bool watch_all(bench *good)
+static bool watch_all_refused(const bench *good)
+{
+    for (size_t i = 0; i < REFUSALS; i++)
+        if (!watch_refused(good, &refusals[i]))
+            return false;
+    if (good->card.key_length != EXAMPLE_KEY_LENGTH)
+        printf("\nREFUSED WITH KEYS OF %zu BYTES: the same %zu sessions, with the same numbers\n", good->card.key_length, REFUSALS);
+    return true;
+}
+
+/* What the library declines for its lengths, with all else as in a good session. */
+static bool watch_declined(const bench *good)
+{
+    bench_decline of[BENCH_DECLINES];
+    size_t count = bench_decline_all(good, of);
+    bool ok = true;
+    printf("\nDECLINED FOR A LENGTH, with L = %zu else: nothing is written\n", good->card.key_length);
+    for (size_t i = 0; i < count; i++) {
+        printf("    %-12s  %-32s  number %d\n", of[i].function, of[i].given, of[i].number);
+        ok = ok && of[i].number == of[i].wanted;
+    }
+    return ok;
+}
+
+/* A session for keys of 24 or 32 bytes. */
+static bool watch_longer(bench *b, size_t key_length, const bench *good)
+{
+    return watch_good(b, key_length, &example_wiegand) && b->initial.command_len == good->initial.command_len && answered_alike(b, good);
+}
+
+static bool watch_all(bench good[3])
 {
     static bench second;
-    plaid_loaded loaded = example_card();
+    plaid_loaded loaded = example_card(EXAMPLE_KEY_LENGTH);
     show_card(&loaded.card);
     platform_erase(&loaded, sizeof loaded);
-    bool ok = watch_good(good, &example_wiegand) && watch_good(&second, &example_uuid) && alike_on_the_line(&second, good);
+    bool ok = watch_good(&good[0], 16, &example_wiegand) && watch_good(&second, 16, &example_uuid) && alike_on_the_line(&second, &good[0]);
     bench_forget(&second);
-    ok = ok && watch_other_list(good);
-    for (size_t i = 0; ok && i < REFUSALS; i++)
-        ok = watch_refused(good, &refusals[i]);
-    return ok;
+    ok = ok && watch_other_list(&good[0]) && watch_longer(&good[1], 24, &good[0]) && watch_longer(&good[2], 32, &good[0]);
+    for (size_t i = 0; ok && i < 3; i++)
+        ok = watch_all_refused(&good[i]);
+    return ok && watch_declined(&good[0]);
 }
 
 int main(int argc, char **argv)
 {
-    static bench good;
+    static bench good[3]; /* of 16, 24 and 32 bytes */
     if (argc > 2 || (argc == 2 && argv[1][0] == '-')) {
         fprintf(stderr, "usage: watch [KEYS]\n");
         return 2;
@@ -337,14 +407,17 @@ int main(int argc, char **argv)
         return READER_NO_KEY;
     }
     printf("PLAID sessions. Fresh bytes: %s.\nRSA: %s.\n\n", platform_source(), platform_rsa());
-    bool ok = watch_all(&good);
+    bool ok = watch_all(good);
     if (ok)
-        printf("\nOn the line all eight sessions were alike, the other list's length apart:\n"
-               "messages of %zu, %zu, %zu and %zu bytes, status 9000. Three of them gave a record.\n",
-            good.initial.command_len, good.initial.answer_len, good.final.command_len, good.final.answer_len);
+        printf("\nOn the line all sessions with keys of 16 bytes were alike, the other list's\n"
+               "length apart: messages of %zu, %zu, %zu and %zu bytes, status 9000. With keys of 24\n"
+               "and 32 bytes the final command had %zu and %zu. Five sessions gave a record.\n",
+            good[0].initial.command_len, good[0].initial.answer_len, good[0].final.command_len, good[0].final.answer_len,
+            good[1].final.command_len, good[2].final.command_len);
     else
         printf("\nNOT AS EXPECTED: stopped.\n");
-    bench_forget(&good);
+    for (size_t i = 0; i < 3; i++)
+        bench_forget(&good[i]);
     platform_close();
     return ok ? 0 : 1;
 }

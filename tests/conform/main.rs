@@ -48,6 +48,12 @@ fn sixteen(text: &str) -> Result<[u8; 16], String> {
     bytes(text)?.try_into().map_err(|_| format!("'{text}' is not 16 bytes"))
 }
 
+/// A key, RND or KeysHash: as many bytes as one can say that it has.
+fn value(text: &str) -> Result<Value, String> {
+    let bytes = bytes(text)?;
+    if bytes.len() > 255 { Err(format!("'{text}' is over 255 bytes")) } else { Ok(Value::of(&bytes)) }
+}
+
 fn number<T: std::str::FromStr>(text: &str) -> Result<T, String> {
     text.parse().map_err(|_| format!("'{text}' is not a number in range"))
 }
@@ -69,7 +75,7 @@ fn parts(text: &str) -> Vec<&str> {
 
 fn key_set(text: &str) -> Result<KeySet, String> {
     match text.split(':').collect::<Vec<_>>()[..] {
-        [id, handle, key] => Ok(KeySet { id: number(id)?, handle: number(handle)?, fa_key: sixteen(key)? }),
+        [id, handle, key] => Ok(KeySet { id: number(id)?, handle: number(handle)?, fa_key: value(key)? }),
         _ => Err(format!("'{text}' is not KeySetID:handle:FAKey")),
     }
 }
@@ -82,11 +88,12 @@ fn mode(text: &str) -> Result<Mode, String> {
 }
 
 fn load(line: &str) -> Result<(Option<Card>, String), String> {
-    let f = fields(line, &["sets", "modes", "area", "div", "shill_key", "shill_handle"])?;
+    let f = fields(line, &["l", "sets", "modes", "area", "div", "shill_key", "shill_handle"])?;
     let sets = parts(f["sets"]).into_iter().map(key_set).collect::<Result<Vec<_>, _>>()?;
     let modes = parts(f["modes"]).into_iter().map(mode).collect::<Result<Vec<_>, _>>()?;
     let area = bytes(f["area"])?;
-    let r = run_load(&sets, &modes, &area, sixteen(f["div"])?, sixteen(f["shill_key"])?, number(f["shill_handle"])?);
+    let given = given(number(f["l"])?, sixteen(f["div"])?, value(f["shill_key"])?, number(f["shill_handle"])?);
+    let r = run_load(&sets, &modes, &area, given);
     let result = format!("number={} reply_size={}", r.number, r.card.reply_size);
     Ok((if r.number == 0 { Some(r.card) } else { None }, result))
 }
@@ -120,28 +127,30 @@ fn list(line: &str) -> Result<String, String> {
 }
 
 fn open(line: &str) -> Result<String, String> {
-    let f = fields(line, &["ids", "blocks"])?;
-    let r = run_open(&ids(f["ids"])?, &bytes(f["blocks"])?);
+    let f = fields(line, &["l", "ids", "blocks"])?;
+    let r = run_open(number(f["l"])?, &ids(f["ids"])?, &bytes(f["blocks"])?);
     if r.number != 0 {
         return Ok(format!("number={}", r.number));
     }
-    Ok(format!("number=0 place={} id={} div={} rnd1={}", r.place, r.id, hex(&r.div_data), hex(&r.rnd1)))
+    Ok(format!("number=0 place={} id={} div={} rnd1={}", r.place, r.id, hex(&r.div_data), hex(r.rnd1.held())))
 }
 
 fn seal(line: &str) -> Result<String, String> {
-    let f = fields(line, &["fakey", "div", "rnd1", "rnd2", "mode", "payload", "out"])?;
-    let of = Sealing { fa_key: sixteen(f["fakey"])?, div_data: sixteen(f["div"])?, rnd1: sixteen(f["rnd1"])?, rnd2: sixteen(f["rnd2"])?, mode: number(f["mode"])? };
+    let f = fields(line, &["l", "fakey", "div", "rnd1", "rnd2", "mode", "payload", "out"])?;
+    let (key_length, fa_key, div_data) = (number(f["l"])?, value(f["fakey"])?, sixteen(f["div"])?);
+    let of = Sealing { key_length, fa_key, div_data, rnd1: value(f["rnd1"])?, rnd2: value(f["rnd2"])?, mode: number(f["mode"])? };
     let fill = filled(f["out"])?;
     let mut out = fill.clone();
     let r = run_seal(of, &bytes(f["payload"])?, &mut out);
     let (command, kept) = written(&out, &fill, r.length);
-    let hash = if r.number == 0 { hex(&r.keys_hash) } else { "-".to_string() };
+    let hash = if r.number == 0 { hex(r.keys_hash.held()) } else { "-".to_string() };
     Ok(format!("number={} length={} keyshash={hash} command={command}{kept}", r.number, r.length))
 }
 
 fn accept(line: &str) -> Result<String, String> {
-    let f = fields(line, &["keyshash", "div", "reclen", "response", "work"])?;
-    let of = Accepting { keys_hash: sixteen(f["keyshash"])?, div_data: sixteen(f["div"])?, record_length: number(f["reclen"])? };
+    let f = fields(line, &["l", "keyshash", "div", "reclen", "response", "work"])?;
+    let (key_length, keys_hash) = (number(f["l"])?, value(f["keyshash"])?);
+    let of = Accepting { key_length, keys_hash, div_data: sixteen(f["div"])?, record_length: number(f["reclen"])? };
     let response = bytes(f["response"])?;
     let before = bytes(f["work"])?;
     let mut work = before.clone();
@@ -163,8 +172,7 @@ fn call(line: &str, card: &mut Option<Card>) -> Result<String, String> {
     let a = r.answer;
     *card = Some(r.card);
     let end = a.length.min(out.len());
-    let session = r.card.session;
-    let after = if session.opened { format!("{}:{}", session.id, hex(&session.rnd1)) } else { "-".to_string() };
+    let after = r.card.open_session().map_or("-".to_string(), |(id, rnd1)| format!("{id}:{}", hex(rnd1)));
     let mut s = format!(
         "number={} status={} comparisons={} decipherments={} encipherments={} expansions={} hash_blocks={} length={} handle={} sum={} answer={} session={}",
         a.number, a.status, a.comparisons, a.decipherments, a.encipherments, a.expansions, a.hash_blocks, a.length, a.handle, r.sum, hex(&out[..end]), after

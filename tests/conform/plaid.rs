@@ -2,16 +2,37 @@
 
 use std::ops::Range;
 
+/// A key, RND or KeysHash with the length that it says it has; it holds no more than 32 bytes.
 #[repr(C)]
-#[derive(Clone, Copy)]
-pub struct KeySet {
-    pub id: u16,
-    pub handle: u8,
-    pub fa_key: [u8; 16],
+#[derive(Clone, Copy, Default, PartialEq)]
+pub struct Value {
+    pub length: u8,
+    pub bytes: [u8; 32],
+}
+
+impl Value {
+    /// At most 255 bytes, of which the first 32 are held; zeros stand behind them.
+    pub fn of(bytes: &[u8]) -> Value {
+        let mut value = Value { length: bytes.len().min(255) as u8, ..Value::default() };
+        value.bytes.iter_mut().zip(bytes).for_each(|(to, from)| *to = *from);
+        value
+    }
+
+    pub fn held(&self) -> &[u8] {
+        &self.bytes[..usize::from(self.length).min(32)]
+    }
 }
 
 #[repr(C)]
-#[derive(Clone, Copy)]
+#[derive(Clone, Copy, PartialEq)]
+pub struct KeySet {
+    pub id: u16,
+    pub handle: u8,
+    pub fa_key: Value,
+}
+
+#[repr(C)]
+#[derive(Clone, Copy, PartialEq)]
 pub struct Mode {
     pub id: u16,
     pub start: usize,
@@ -24,7 +45,7 @@ pub struct KeySetSlot {
     pub held: bool,
     pub id: u16,
     pub handle: u8,
-    pub fa_key: [u8; 16],
+    pub fa_key: [u8; 32],
 }
 
 #[repr(C)]
@@ -41,7 +62,7 @@ pub struct ModeSlot {
 pub struct Session {
     pub opened: bool,
     pub id: u16,
-    pub rnd1: [u8; 16],
+    pub rnd1: [u8; 32],
 }
 
 #[repr(C)]
@@ -51,10 +72,19 @@ pub struct Card {
     pub modes: [ModeSlot; 16],
     pub area: [u8; 1024],
     pub div_data: [u8; 16],
-    pub shill_key: [u8; 16],
+    pub shill_key: [u8; 32],
     pub shill_handle: u8,
+    pub key_length: usize,
     pub reply_size: usize,
     pub session: Session,
+}
+
+impl Card {
+    /// The session's KeySetID and RND1, if one is open.
+    pub fn open_session(&self) -> Option<(u16, &[u8])> {
+        let length = self.key_length.min(32);
+        if self.session.opened { Some((self.session.id, &self.session.rnd1[..length])) } else { None }
+    }
 }
 
 #[repr(C)]
@@ -82,10 +112,11 @@ pub struct Outcome {
 #[repr(C)]
 #[derive(Clone, Copy)]
 pub struct Given {
+    pub key_length: usize,
     pub modes: [Mode; 16],
     pub mode_count: usize,
     pub div_data: [u8; 16],
-    pub shill_key: [u8; 16],
+    pub shill_key: Value,
     pub shill_handle: u8,
 }
 
@@ -117,16 +148,17 @@ pub struct Opened {
     pub place: usize,
     pub id: u16,
     pub div_data: [u8; 16],
-    pub rnd1: [u8; 16],
+    pub rnd1: Value,
 }
 
 #[repr(C)]
 #[derive(Clone, Copy)]
 pub struct Sealing {
-    pub fa_key: [u8; 16],
+    pub key_length: usize,
+    pub fa_key: Value,
     pub div_data: [u8; 16],
-    pub rnd1: [u8; 16],
-    pub rnd2: [u8; 16],
+    pub rnd1: Value,
+    pub rnd2: Value,
     pub mode: u16,
 }
 
@@ -135,13 +167,14 @@ pub struct Sealing {
 pub struct Sealed {
     pub number: u8,
     pub length: usize,
-    pub keys_hash: [u8; 16],
+    pub keys_hash: Value,
 }
 
 #[repr(C)]
 #[derive(Clone, Copy)]
 pub struct Accepting {
-    pub keys_hash: [u8; 16],
+    pub key_length: usize,
+    pub keys_hash: Value,
     pub div_data: [u8; 16],
     pub record_length: usize,
 }
@@ -165,21 +198,20 @@ unsafe extern "C" {
     fn plaid_load(sets: *const KeySet, set_count: usize, given: Given, area: *const u8, area_len: usize) -> Loaded;
     fn plaid_command(card: Card, command: *const u8, command_len: usize, fresh: *const u8, fresh_len: usize, out: *mut u8, out_len: usize) -> Outcome;
     fn plaid_list(of: Ids, out: *mut u8, out_len: usize) -> Written;
-    fn plaid_open(of: Ids, blocks: *const u8, blocks_len: usize) -> Opened;
+    fn plaid_open(key_length: usize, of: Ids, blocks: *const u8, blocks_len: usize) -> Opened;
     fn plaid_seal(of: Sealing, payload: *const u8, payload_len: usize, out: *mut u8, out_len: usize) -> Sealed;
     fn plaid_accept(of: Accepting, response: *const u8, response_len: usize, work: *mut u8, work_len: usize) -> Accepted;
     fn plaid_record(work: *const u8, work_len: usize, of: Accepted) -> Part;
 }
 
+/// What a load gives beside its lists, with no mode yet.
+pub fn given(key_length: usize, div_data: [u8; 16], shill_key: Value, shill_handle: u8) -> Given {
+    Given { key_length, modes: [Mode { id: 0, start: 0, len: 0 }; 16], mode_count: 0, div_data, shill_key, shill_handle }
+}
+
 /// A load of any number of key sets and modes: of the modes the library looks at the count and at no more than the first sixteen.
-pub fn run_load(sets: &[KeySet], modes: &[Mode], area: &[u8], div_data: [u8; 16], shill_key: [u8; 16], shill_handle: u8) -> Loaded {
-    let mut given = Given {
-        modes: [Mode { id: 0, start: 0, len: 0 }; 16],
-        mode_count: modes.len(),
-        div_data,
-        shill_key,
-        shill_handle,
-    };
+pub fn run_load(sets: &[KeySet], modes: &[Mode], area: &[u8], mut given: Given) -> Loaded {
+    given.mode_count = modes.len();
     for (to, from) in given.modes.iter_mut().zip(modes) {
         *to = *from;
     }
@@ -203,8 +235,8 @@ pub fn run_list(list: &[u16], out: &mut [u8]) -> Written {
     unsafe { plaid_list(ids_of(list), out.as_mut_ptr(), out.len()) }
 }
 
-pub fn run_open(list: &[u16], blocks: &[u8]) -> Opened {
-    unsafe { plaid_open(ids_of(list), blocks.as_ptr(), blocks.len()) }
+pub fn run_open(key_length: usize, list: &[u16], blocks: &[u8]) -> Opened {
+    unsafe { plaid_open(key_length, ids_of(list), blocks.as_ptr(), blocks.len()) }
 }
 
 pub fn run_seal(of: Sealing, payload: &[u8], out: &mut [u8]) -> Sealed {

@@ -6,11 +6,12 @@ zeros() { printf '%0*d' "$1" 0; }
 
 # session KEYS MODE [FAKEY]: writes what the reader says, but for the stand-in's name, and its exit status
 card_env=() reader_env=() filter=(cat) # what the card's and the reader's environment have more; what the card's answers go through
+card_flag=() reader_flag=()            # the flag of each end's key length
 session() {
     rm -f "$room/up" "$room/down"
     mkfifo "$room/up" "$room/down"
-    env "${card_env[@]}" timeout 60 "$ex/card" ${1:+"$1"} <"$room/up" 2>"$room/card-told" | "${filter[@]}" >"$room/down" &
-    env "${reader_env[@]}" timeout 60 "$ex/reader" "$2" "$1" ${3:+"$3"} >"$room/up" <"$room/down" 2>"$room/told"
+    env "${card_env[@]}" timeout 60 "$ex/card" "${card_flag[@]}" ${1:+"$1"} <"$room/up" 2>"$room/card-told" | "${filter[@]}" >"$room/down" &
+    env "${reader_env[@]}" timeout 60 "$ex/reader" "${reader_flag[@]}" "$2" "$1" ${3:+"$3"} >"$room/up" <"$room/down" 2>"$room/told"
     local status=$?
     wait
     echo "$(grep -v STAND-IN "$room/told" | paste -sd ';'), exit $status"
@@ -27,12 +28,39 @@ sessions() { # KEYS: '' is the stand-in
     holds "$name: both name a stand-in, and RSA is none" gives "$named" "$(stand_ins)"
     holds "$name: record of mode 0008" gives "record: $uuid, exit 0" "$(session "$1" 0008)"
     holds "$name: the right FAKey as an argument" gives "$record" \
-        "$(session "$1" 0007 "$(printf 'FAKey of set 102' | od -An -tx1 | tr -d ' \n')")"
+        "$(session "$1" 0007 "$(fa_key 16)")"
     holds "$name: wrong FAKey" gives "reader: no record, number 20, exit 1" "$(session "$1" 0007 "$(zeros 32)")"
     holds "$name: unknown mode" gives "reader: no record, number 20, exit 1" "$(session "$1" 0BAD)"
     holds "$name: unknown mode, its length given" gives "reader: no record, number 20, exit 1" "$(session "$1" 0009:4)"
     lengths "$name" "$1"
+    key_lengths "$name" "$1"
 }
+# Both ends have L bytes in a key; or each another L, and the reader ends with 15, as with a card that has none of its sets.
+key_lengths() { # NAME KEYS
+    local l other card_flag reader_flag
+    for l in 16 24 32; do
+        card_flag=(-L$l)
+        for other in 16 24 32; do
+            reader_flag=(-L$other)
+            if [ "$l" = "$other" ]; then
+                holds "$1, L = $l: record of mode 0007" gives "$record" "$(session "$2" 0007)"
+                holds "$1, L = $l: record of mode 0008" gives "record: $uuid, exit 0" "$(session "$2" 0008)"
+                holds "$1, L = $l: the right FAKey as an argument" gives "$record" "$(session "$2" 0007 "$(fa_key "$l")")"
+                holds "$1, L = $l: a FAKey with another last byte" gives "reader: no record, number 20, exit 1" \
+                    "$(session "$2" 0007 "$(fa_key $((l - 1)))00")"
+                holds "$1, L = $l: unknown mode" gives "reader: no record, number 20, exit 1" "$(session "$2" 0BAD)"
+            else
+                holds "$1: a card with L = $l, a reader with $other" gives "reader: no record, number 15, exit 1" "$(session "$2" 0007)"
+            fi
+        done
+    done
+    card_flag=() reader_flag=(-L16)
+    holds "$1: a card without a flag has L = 16" gives "$record" "$(session "$2" 0007)"
+    card_flag=(-L16) reader_flag=()
+    holds "$1: a reader without a flag has L = 16" gives "$record" "$(session "$2" 0007)"
+}
+# The first so many bytes of set 0102's FAKey.
+fa_key() { printf 'FAKey of set 102 of 24, 32 bytes' | head -c "$1" | od -An -v -tx1 | tr -d ' \n'; }
 # Reader and card differ in how long the record is. 16 bytes stand before DivData for both modes: more is refused, as is 0. What another
 # maker's reader takes for mode 0007, all that stands there, is the Wiegand number and the filler.
 lengths() { # NAME KEYS
@@ -93,7 +121,21 @@ usages() {
     holds "usage: reader, a length below 0" usage "$ex/reader" 0007:-4
     holds "usage: reader, a short FAKey" usage "$ex/reader" 0007 '' 00
     holds "usage: reader, four arguments" usage "$ex/reader" 0007 '' "$(zeros 32)" x
+    key_length_usages card
+    key_length_usages reader 0007
+    holds "usage: reader, a FAKey of 16 bytes for 24" usage "$ex/reader" -L24 0007 '' "$(zeros 32)"
+    holds "usage: reader, a FAKey of 32 bytes for 16" usage "$ex/reader" 0007 '' "$(zeros 64)"
+    holds "usage: reader, its flag behind the mode" usage "$ex/reader" 0007 -L24
     holds "usage: watch --help" usage "$ex/watch" --help
+}
+
+# A key length that is none of the three.
+key_length_usages() { # PROGRAM ARGUMENT..
+    local flag
+    for flag in -L -L0 -L8 -L20 -L33 -L64 -L016 -L16x -L+24 -l16 --L16 -16; do
+        holds "usage: $1 $flag" usage "$ex/$1" "$flag" "${@:2}"
+    done
+    holds "usage: $1, two flags" usage "$ex/$1" -L16 -L24 "${@:2}"
 }
 
 # answered TEXT: what the reader makes of a card that says this, whatever it is asked
@@ -176,23 +218,28 @@ told_erased() { gives "$(printf '%s\n' "${@:2}")" "$(LC_ALL=C sort -u "$room/$1-
 
 # The secrets that stood in what each end erased, and that nothing is left of them: the initial answer's block where RSA failed, too.
 erased() { # KEYS
-    local card_env=(ERASED="$room/card-erased") reader_env=(ERASED="$room/reader-erased") ex=$room/seams
+    local l
+    for l in 16 24 32; do erased_of "$1" "$l"; done
+}
+erased_of() { # KEYS L
+    local card_env=(ERASED="$room/card-erased" KEY_LENGTH="$2") reader_env=(ERASED="$room/reader-erased" KEY_LENGTH="$2") ex=$room/seams
+    local card_flag=(-L"$2") reader_flag=(-L"$2") name="erased, L = $2"
     rm -f "$room"/*-erased
-    holds "erased: a session" gives "$record" "$(session "$1" 0007)"
-    holds "erased: by the card" told_erased card "card FAKey" "card UUID" "card Wiegand" "card shill-key" "fresh RND1" "given shill-key" \
+    holds "$name: a session" gives "$record" "$(session "$1" 0007)"
+    holds "$name: by the card" told_erased card "card FAKey" "card UUID" "card Wiegand" "card shill-key" "fresh RND1" "given shill-key" \
         "loaded FAKey" "loaded UUID" "loaded Wiegand" "loaded shill-key" "outcome FAKey" "outcome RND1" "outcome UUID" "outcome Wiegand" \
-        "outcome shill-key"
-    holds "erased: by the reader" told_erased reader "accepting KeysHash" "blocks RND1" "session FAKey" "session KeysHash" "session RND1" \
+        "outcome shill-key" "sets FAKey"
+    holds "$name: by the reader" told_erased reader "accepting KeysHash" "blocks RND1" "session FAKey" "session KeysHash" "session RND1" \
         "session RND2" "session Wiegand" "sets FAKey"
     rm -f "$room"/*-erased
     card_env+=(ERASE=no) reader_env+=(ERASE=no)
-    holds "erased: a session without erasing" gives "$record" "$(session "$1" 0007)"
-    holds "erased: where nothing is, it is seen" gives 0 "$(cat "$room"/*-erased | grep -vc 'NOT ERASED$')"
+    holds "$name: a session without erasing" gives "$record" "$(session "$1" 0007)"
+    holds "$name: where nothing is, it is seen" gives 0 "$(cat "$room"/*-erased | grep -vc 'NOT ERASED$')"
     [ -n "$1" ] || return
     rm -f "$room"/*-erased
-    card_env=(ERASED="$room/card-erased" FAULT=public:1)
+    card_env=(ERASED="$room/card-erased" KEY_LENGTH="$2" FAULT=public:1)
     session "$1" 0007 >"$room/out"
-    holds "erased: the block that was not encrypted" grep -qx 'answer RND1' "$room/card-erased"
+    holds "$name: the block that was not encrypted" grep -qx 'answer RND1' "$room/card-erased"
 }
 
 # The reader's private key of set 0102 is another one.

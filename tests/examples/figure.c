@@ -34,12 +34,14 @@ static bool session(const char *folder)
 {
     static const uint8_t record[] = {0xF8, 0x1D, 0x4F, 0xAE, 0x7D, 0xEC, 0x11, 0xD0, 0xA7, 0x65, 0x00, 0xA0, 0xC9, 0x1E, 0x6B, 0xF6};
     plaid_key_set sets[PLAID_LIST_IDS];
-    plaid_loaded loaded = example_card();
+    plaid_key_set known[EXAMPLE_READER_SETS];
+    plaid_loaded loaded = example_card(EXAMPLE_KEY_LENGTH);
     reader_session s;
     for (size_t i = 0; i < PLAID_LIST_IDS; i++)
-        sets[i] = (plaid_key_set){{(uint16_t)(0x0500 + i)}, handles[i], {0}};
-    sets[PLAID_LIST_IDS - 1] = example_reader[1];
-    reader_plan plan = {sets, PLAID_LIST_IDS, example_uuid.id, sizeof record, handles, 0, exchange, &loaded.card};
+        sets[i] = (plaid_key_set){{(uint16_t)(0x0500 + i)}, handles[i], {EXAMPLE_KEY_LENGTH, {0}}};
+    example_reader(EXAMPLE_KEY_LENGTH, known);
+    sets[PLAID_LIST_IDS - 1] = known[1];
+    reader_plan plan = {EXAMPLE_KEY_LENGTH, sets, PLAID_LIST_IDS, example_uuid.id, sizeof record, handles, 0, exchange, &loaded.card};
     platform_open(folder);
     if (!card_keys(&loaded.card) || !reader_keys(&plan)) {
         fprintf(stderr, "figure: %s\n", platform_trouble());

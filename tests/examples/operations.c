@@ -36,12 +36,12 @@ int __wrap_EVP_PKEY_decrypt(EVP_PKEY_CTX *key, unsigned char *out, size_t *out_l
     return ok;
 }
 
-plaid_opened __real_plaid_open(plaid_ids of, const uint8_t *blocks, size_t blocks_len);
-plaid_opened __wrap_plaid_open(plaid_ids of, const uint8_t *blocks, size_t blocks_len)
+plaid_opened __real_plaid_open(size_t key_length, plaid_ids of, const uint8_t *blocks, size_t blocks_len);
+plaid_opened __wrap_plaid_open(size_t key_length, plaid_ids of, const uint8_t *blocks, size_t blocks_len)
 {
     handed_len = blocks_len;
     memcpy(handed, blocks, blocks_len < sizeof handed ? blocks_len : sizeof handed);
-    return __real_plaid_open(of, blocks, blocks_len);
+    return __real_plaid_open(key_length, of, blocks, blocks_len);
 }
 
 /* The platform, or a wrong one. */
@@ -114,7 +114,7 @@ static void try_number(const char *name, const BIGNUM *number, size_t first, siz
         sets[i].handle = handles[first + i];
     }
     BN_bn2binpad(number, answer, PLAID_BLOCK);
-    reader_plan plan = {sets, entries, {7}, 4, answer, 0, exchange, answer};
+    reader_plan plan = {16, sets, entries, {7}, 4, answer, 0, exchange, answer};
     operations = 0;
     handed_len = 0;
     int ended = reader_run(&plan, &s);

@@ -4,6 +4,7 @@
  *   FAULT=random:N, public:N, private:N      the Nth call fails; of random bytes, the Nth for more than one byte
  *   ERASED=FILE                              gets a line 'OBJECT SECRET' for each secret that stood in an erased object
  *   ERASE=no                                 nothing is erased, which the lines then say
+ *   KEY_LENGTH=L                             of both ends; 16 where it is not given
  */
 #define _POSIX_C_SOURCE 200809L
 #include "card_end.h"
@@ -20,10 +21,17 @@ static struct {
     uint8_t bytes[PLAID_CARD_RECORD];
     size_t len;
 } secrets[SECRETS] = {
-    {"FAKey", "FAKey of set 102", 16}, {"shill-key", "the shill key 16", 16}, {"Wiegand", {0x00, 0x2A, 0x24, 0xCF}, 4},
+    {"FAKey", "FAKey of set 102 of 24, 32 bytes", 0}, {"shill-key", "the shill key 16 of 24, 32 bytes", 0}, {"Wiegand", {0x00, 0x2A, 0x24, 0xCF}, 4},
     {"UUID", {0xF8, 0x1D, 0x4F, 0xAE, 0x7D, 0xEC, 0x11, 0xD0, 0xA7, 0x65, 0x00, 0xA0, 0xC9, 0x1E, 0x6B, 0xF6}, 16},
 };
 static size_t known = 4;
+
+/* L, by which the two keys are cut to their length too. */
+static size_t key_length(void)
+{
+    const char *given = getenv("KEY_LENGTH");
+    return secrets[0].len = secrets[1].len = given ? strtoul(given, NULL, 10) : 16;
+}
 
 static void learn(const char *name, const uint8_t *bytes, size_t len)
 {
@@ -53,9 +61,9 @@ bool __wrap_backend_random(uint8_t *to, size_t count)
         return false;
     bool ok = __real_backend_random(to, count);
     if (count == PLAID_FRESH)
-        learn("RND1", to, PLAID_RND);
-    else if (count == PLAID_RND)
-        learn("RND2", to, PLAID_RND);
+        learn("RND1", to, key_length());
+    else if (count == key_length())
+        learn("RND2", to, key_length());
     return ok;
 }
 
@@ -71,12 +79,12 @@ bool __wrap_backend_private(uint8_t handle, uint8_t block[PLAID_BLOCK])
     return !fault("private") && __real_backend_private(handle, block);
 }
 
-plaid_opened __real_plaid_open(plaid_ids of, const uint8_t *blocks, size_t blocks_len);
-plaid_opened __wrap_plaid_open(plaid_ids of, const uint8_t *blocks, size_t blocks_len)
+plaid_opened __real_plaid_open(size_t length, plaid_ids of, const uint8_t *blocks, size_t blocks_len);
+plaid_opened __wrap_plaid_open(size_t length, plaid_ids of, const uint8_t *blocks, size_t blocks_len)
 {
-    plaid_opened opened = __real_plaid_open(of, blocks, blocks_len);
+    plaid_opened opened = __real_plaid_open(length, of, blocks, blocks_len);
     if (opened.number == PLAID_DONE)
-        learn("RND1", opened.rnd1, PLAID_RND);
+        learn("RND1", opened.rnd1.bytes, opened.rnd1.length);
     return opened;
 }
 
@@ -84,11 +92,12 @@ plaid_sealed __real_plaid_seal(plaid_sealing of, const uint8_t *payload, size_t 
 plaid_sealed __wrap_plaid_seal(plaid_sealing of, const uint8_t *payload, size_t payload_len, uint8_t *out, size_t out_len)
 {
     plaid_sealed sealed = __real_plaid_seal(of, payload, payload_len, out, out_len);
-    learn("KeysHash", sealed.keys_hash, PLAID_KEYS_HASH);
+    if (sealed.number == PLAID_DONE)
+        learn("KeysHash", sealed.keys_hash.bytes, sealed.keys_hash.length);
     return sealed;
 }
 
-/* An object by its size. The reader's sets are as long as `accepting`, and begin with the example's first KeySetID and handle. */
+/* An object by its size. Two key sets are as long as `accepting`, and begin with the KeySetID and handle of an example's first. */
 static const char *object(const void *at, size_t size)
 {
     static const struct {
@@ -99,7 +108,10 @@ static const char *object(const void *at, size_t size)
         {PLAID_FRESH, "fresh"}, {CARD_ANSWER_MOST, "answer"}, {PLAID_LIST_IDS * PLAID_BLOCK, "blocks"}, {sizeof(plaid_accepting), "accepting"},
         {sizeof(reader_session), "session"},
     };
-    if (size == sizeof example_reader && memcmp(at, &example_reader[0], offsetof(plaid_key_set, fa_key)) == 0)
+    plaid_key_set first = {{0}, 0, {0, {0}}};
+    if (size == 2 * sizeof first)
+        memcpy(&first, at, sizeof first);
+    if ((first.id.value == 0x0102 && first.handle == 0x11) || (first.id.value == 0x0301 && first.handle == 0x21))
         return "sets";
     for (size_t i = 0; i < sizeof objects / sizeof objects[0]; i++)
         if (objects[i].size == size)
@@ -119,6 +131,7 @@ void __real_platform_erase(void *at, size_t count);
 void __wrap_platform_erase(void *at, size_t count)
 {
     const char *name = object(at, count);
+    key_length();
     bool held[SECRETS] = {false}, left = false;
     for (size_t i = 0; i < known; i++)
         held[i] = holds(at, count, secrets[i].bytes, secrets[i].len);

@@ -4,24 +4,44 @@
 watch_facts() { # NAME FILE
     holds "$1: the two records on one card" grep -qx '    modes       0007 (record of 4 bytes), 0008 (record of 16 bytes)' "$2"
     holds "$1: a session for each record" gives "0007 0008" "$(sed -n 's/^SESSION FOR MODE \(....\): .*/\1/p' "$2" | paste -sd ' ')"
-    holds "$1: the set that wins" gives 2 "$(grep -cx '    entry 1     KeySetID 0102  opens, so this set wins' "$2")"
-    holds "$1: one DivData in card, blocks and answers" gives "5 1" \
+    holds "$1: a session for each longer L" gives "24 32" "$(sed -n 's/^SESSION WITH KEYS OF \(..\) BYTES: .*/\1/p' "$2" | paste -sd ' ')"
+    holds "$1: a longer L is a rule of this house" gives 2 "$(grep -c ': a rule of this house, that no other maker' "$2")"
+    holds "$1: the set that wins" gives 4 "$(grep -cx '    entry 1     KeySetID 0102  opens, so this set wins' "$2")"
+    holds "$1: one DivData in card, blocks and answers" gives "9 1" \
         "$(sed -n 's/^    DivData *//p' "$2" | sort | uniq -c | awk '{ print $1, NR }')"
-    holds "$1: five refused sessions" gives 5 "$(grep -c '^REFUSED: ' "$2")"
-    holds "$1: number 15 once" gives 1 "$(grep -c 'Open gives 15: ' "$2")"
+    holds "$1: eight refused sessions" gives 8 "$(grep -c '^REFUSED: ' "$2")"
+    holds "$1: the same eight for each longer L" gives "24 32" \
+        "$(sed -n 's/^REFUSED WITH KEYS OF \(..\) BYTES: the same 8 sessions, with the same numbers$/\1/p' "$2" | paste -sd ' ')"
+    holds "$1: number 15 twice" gives 2 "$(grep -c 'Open gives 15: ' "$2")"
     holds "$1: number 20 four times" gives 4 "$(grep -c 'Accept gives 20: ' "$2")"
-    holds "$1: a card's refusal tells nothing of it" gives 4 "$(grep -c 'sends the same 48 bytes$' "$2")"
-    holds "$1: once the reader alone refuses" gives "wrong record length" \
-        "$(awk -F ': ' '/^REFUSED/ { last = $2 } /card     accepts/ { print last }' "$2")"
-    holds "$1: strangers see 256 and 48 bytes, 9000" gives 10 "$(grep -Ec '^    card +(256|48) bytes  ([0-9A-F]{2} ){12}\.\.  9000$' "$2")"
+    holds "$1: number 21 by Open" gives "a key length that is none" "$(refused_by 'Open gives 21: ' "$2")"
+    holds "$1: number 22 by Seal" gives "a FAKey that is not of L bytes" "$(refused_by 'Seal gives 22: ' "$2")"
+    holds "$1: a card's refusal tells nothing of it" gives 7 "$(grep -c 'sends the same 48 bytes$' "$2")"
+    holds "$1: once the reader alone refuses" gives "wrong record length" "$(refused_by 'card     accepts' "$2")"
+    holds "$1: strangers see 256 and 48 bytes, 9000" gives 16 "$(grep -Ec '^    card +(256|48) bytes  ([0-9A-F]{2} ){12}\.\.  9000$' "$2")"
     holds "$1: equal counts for both records" gives 2 "$(grep -Ec '^    encipherments +0 +4$' "$2")"
+    holds "$1: one encipherment more for each longer L" gives 2 "$(grep -Ec '^    encipherments +0 +5$' "$2")"
+    holds "$1: hash blocks, 2 for L = 32" gives "1 1 1 2" "$(sed -n 's/^    hash blocks  *0  *//p' "$2" | paste -sd ' ')"
+    holds "$1: what is declined for a length" gives "load:21 load:22 load:22 open:21 seal:21 seal:22 seal:22 seal:22 accept:21 accept:22" \
+        "$(sed -n 's/^    plaid_\([a-z]*\) .* number \(2[0-9]\)$/\1:\2/p' "$2" | paste -sd ' ')"
+    holds "$1: five records" grep -q 'the final command had 70 and 86\. Five sessions gave a record\.$' "$2"
     holds "$1: at most 80 columns" gives 0 "$(awk 'length > 80' "$2" | wc -l)"
     holds "$1: plain characters" gives 0 "$(LC_ALL=C grep -c '[^ -~]' "$2")"
 }
+# The refused sessions that have such a line.
+refused_by() { awk -F ': ' -v text="$1" '/^REFUSED/ { last = $2 } index($0, text) { print last }' "$2"; }
 
 # The lines of a session; of such, the bytes of a field, those of the rows behind a heading, and those of message 1 field by field, as digits.
-part() { awk -v from="^SESSION $1:" '/^(SESSION|REFUSED)/ { on = $0 ~ from } on' "$2"; }
-field() { sed -n "s/^    $1  *\(\([0-9A-F][0-9A-F] *\)*\)\([a-z][a-z ]*\)\{0,1\}$/\1/p" "$2" | head -n 1 | tr -d ' '; }
+# A field of over 16 bytes goes on in lines without a name.
+part() { awk -v from="^SESSION $1:" '/^(SESSION|REFUSED|DECLINED)/ { on = $0 ~ from } on' "$2"; }
+field() {
+    awk -v name="$1" '
+        function bytes(text) { return text ~ /^([0-9A-F][0-9A-F]( |$))+/ }
+        { text = substr($0, 17); label = substr($0, 5, 12); sub(/ *$/, "", label); sub(/  .*/, "", text) }
+        on && (label != "" || !bytes(text)) { exit }
+        label == name && bytes(text) { on = 1 }
+        on { print text }' "$2" | tr -d ' \n'
+}
 rows() { awk -v from="^$1  " '$0 ~ from { on = 1; next } on && /^    ([0-9A-F][0-9A-F] ?)+$/ { print; next } on { exit }' "$2" | tr -d ' \n'; }
 fields() {
     awk '/^1  / { on = 1; next } /^$/ { on = 0 } on && substr($0, 15, 2) == "  " { text = substr($0, 17); sub(/  .*/, "", text); print text }' \
@@ -37,13 +57,14 @@ initial_is() {
     gives "$bytes $bytes" "$(rows 1 "$room/part") $(fields "$room/part")"
 }
 
-# The reader's result is the record's own bytes, and beside it stands the filler.
-session_facts() { # NAME FILE MODE RECORD FILLER: the filler as it is shown
-    part "FOR MODE $3" "$2" >"$room/part"
-    holds "$1, mode $3: the list, in short forms" initial_is 00870000 0A 3008 04020301 04020102 00
-    holds "$1, mode $3: the record" gives "$4" "$(field record "$room/part")"
-    holds "$1, mode $3: the filler" gives "    filler      $5" "$(grep '^    filler ' "$room/part")"
-    holds "$1, mode $3: KeysHash" keys_hash_is "$room/part"
+# The reader's result is the record's own bytes, and beside it stands the filler. RND1, RND2 and KeysHash have L bytes.
+session_facts() { # NAME FILE SESSION L RECORD FILLER: the filler as it is shown
+    part "$3" "$2" >"$room/part"
+    holds "$1, $3: the list, in short forms" initial_is 00870000 0A 3008 04020301 04020102 00
+    holds "$1, $3: the record" gives "$5" "$(field record "$room/part")"
+    holds "$1, $3: the filler" gives "    filler      $6" "$(grep '^    filler ' "$room/part")"
+    holds "$1, $3: RND1 and RND2 of $4 bytes" gives "$((2 * $4)) $((2 * $4))" "$(echo $(field RND1 "$room/part" | wc -c) $(field '- RND2' "$room/part" | wc -c))"
+    holds "$1, $3: KeysHash" keys_hash_is "$room/part" "$4"
 }
 
 # Another maker's list with the same KeySetIDs: indefinite form, and the length 82 00 02. The card takes it, and the record comes.
@@ -54,30 +75,36 @@ other_list_facts() { # NAME FILE
     holds "$1, other list: the reader finds the set" grep -qx '    reader   Open finds entry 1, set 0102' "$room/part"
     holds "$1, other list: compared places go by Lc" grep -q '^    card     makes 24 comparisons: ' "$room/part"
     holds "$1, other list: the record" gives "$wiegand" "$(field record "$room/part")"
-    holds "$1: three records" grep -q 'status 9000\. Three of them gave a record\.$' "$2"
 }
 
-# KeysHash is SHA-256 of RND1 and RND2, by another program.
-keys_hash_is() {
-    gives "$(field '- KeysHash' "$1")" "$(binary "$(field RND1 "$1")$(field '- RND2' "$1")" | sha256sum | head -c 32 | tr a-f A-F)"
+# KeysHash is the first L bytes of SHA-256 of RND1 and RND2, by another program.
+keys_hash_is() { # FILE L
+    gives "$(field '- KeysHash' "$1")" "$(binary "$(field RND1 "$1")$(field '- RND2' "$1")" | sha256sum | head -c $((2 * $2)) | tr a-f A-F)"
 }
 
-# By openssl: STR2 under the diversified key, and the answer under KeysHash.
-deciphered() { binary "$2" | openssl enc -d -aes-128-cbc -nopad -K "$1" -iv "$(zeros 32)" | digits; }
-sealed_is() { # MODE
-    local key data hash
+# By openssl: STR2 under the diversified key, and the answer under KeysHash. For L over 16 the key is the first L bytes of two enciphered
+# blocks, DivData and DivData with the top bit of its first byte flipped.
+deciphered() { binary "$3" | openssl enc -d -aes-$((8 * $1))-cbc -nopad -K "$2" -iv "$(zeros 32)" | digits; } # L KEY DATA
+diversified() { # L
+    local div other
+    div=$(field DivData "$room/part")
+    other=$(printf '%02X' $((0x${div:0:2} ^ 0x80)))${div:2}
+    binary "$div$other" | openssl enc -aes-$((8 * $1))-ecb -nopad -K "$(fa_key "$1")" | digits | head -c $((2 * $1))
+}
+sealed_is() { # L MODE
+    local data hash
     hash=$(field '- KeysHash' "$room/part")
-    key=$(binary "$(field DivData "$room/part")" | openssl enc -aes-128-ecb -nopad -K "$(printf 'FAKey of set 102' | digits)" | digits)
     data=$(rows 3 "$room/part")
-    gives "$1$(field '- RND2' "$room/part")$(printf FEEDER-21A | digits)${hash}80000000" "$(deciphered "$key" "${data:10:96}")"
+    gives "$2$(field '- RND2' "$room/part")$(printf FEEDER-21A | digits)${hash}80000000" \
+        "$(deciphered "$1" "$(diversified "$1")" "${data:10:$((4 * $1 + 32))}")"
 }
-answer_is() { # RECORD AND FILLER
-    gives "$1$(field DivData "$room/part")80$(zeros 30)" "$(deciphered "$(field '- KeysHash' "$room/part")" "$(rows 4 "$room/part")")"
+answer_is() { # L RECORD AND FILLER
+    gives "$2$(field DivData "$room/part")80$(zeros 30)" "$(deciphered "$1" "$(field '- KeysHash' "$room/part")" "$(rows 4 "$room/part")")"
 }
-by_openssl() { # FILE MODE RECORD FILLER
-    part "FOR MODE $2" "$1" >"$room/part"
-    holds "watch, mode $2: STR2, by openssl" sealed_is "$2"
-    holds "watch, mode $2: the answer, by openssl" answer_is "$3$4"
+by_openssl() { # FILE SESSION L MODE RECORD FILLER
+    part "$2" "$1" >"$room/part"
+    holds "watch, $2: STR2, by openssl" sealed_is "$3" "$4"
+    holds "watch, $2: the answer, by openssl" answer_is "$3" "$5$6"
 }
 
 run_watch() { TMPDIR=$room/tmp "$top/bin/watch" ${2:+"$2"} >"$1"; }
@@ -86,7 +113,9 @@ watch() { # NAME FILE [FLAG]: runs bin/watch with a folder for its temporary fil
     holds "$1: runs" run_watch "$2" "${3-}"
     holds "$1: leaves nothing behind" gives "" "$(ls "$room/tmp")"
     watch_facts "$1" "$2"
-    session_facts "$1" "$2" 0007 "$wiegand" "00 00 00 00 00 00 00 00 00 00 00 00  not looked at"
-    session_facts "$1" "$2" 0008 "$uuid" none
+    session_facts "$1" "$2" "FOR MODE 0007" 16 "$wiegand" "00 00 00 00 00 00 00 00 00 00 00 00  not looked at"
+    session_facts "$1" "$2" "FOR MODE 0008" 16 "$uuid" none
+    session_facts "$1" "$2" "WITH KEYS OF 24 BYTES" 24 "$wiegand" "00 00 00 00 00 00 00 00 00 00 00 00  not looked at"
+    session_facts "$1" "$2" "WITH KEYS OF 32 BYTES" 32 "$wiegand" "00 00 00 00 00 00 00 00 00 00 00 00  not looked at"
     other_list_facts "$1" "$2"
 }

@@ -4,7 +4,7 @@
  * Results: each function is called with the result pointer given by hand, over two different fillings, so that the test sees which bytes
  * the library writes and reads each field where the header says it stands. Inputs: distinct values in each field, which have to arrive.
  * Constants: each is provoked, with the neighbour that is on the other side of it. Expected values come from the inputs, from document 01
- * and from NIST's vectors.
+ * and from NIST's vectors. All of it is run for each key length L.
  *
  * The last line is 'N passed, M failed'.
  */
@@ -44,10 +44,77 @@ static bool all(const uint8_t *bytes, size_t count, uint8_t value)
     return true;
 }
 
-/* NIST's SHA-256 vector for a message of 256 bits, as RND1 and RND2; and the first 16 bytes of its digest. */
-static const uint8_t rnd1[] = {0x09, 0xfc, 0x1a, 0xcc, 0xc2, 0x30, 0xa2, 0x05, 0xe4, 0xa2, 0x08, 0xe6, 0x4a, 0x8f, 0x20, 0x42};
-static const uint8_t rnd2[] = {0x91, 0xf5, 0x81, 0xa1, 0x27, 0x56, 0x39, 0x2d, 0xa4, 0xb8, 0xc0, 0xcf, 0x5e, 0xf0, 0x2b, 0x95};
-static const uint8_t keys_hash[] = {0x4f, 0x44, 0xc1, 0xc7, 0xfb, 0xeb, 0xb6, 0xf9, 0x60, 0x18, 0x29, 0xf3, 0x89, 0x7b, 0xfd, 0x65};
+/* NIST's SHA-256 vectors for messages of 256, 384 and 512 bits, as RND1 and RND2 of L bytes each; and the first L bytes of their digests. */
+static const struct {
+    size_t key_length;
+    uint8_t rnd1[PLAID_VALUE_MOST], rnd2[PLAID_VALUE_MOST], keys_hash[PLAID_VALUE_MOST];
+} nist[] = {
+    {16,
+        {0x09, 0xfc, 0x1a, 0xcc, 0xc2, 0x30, 0xa2, 0x05, 0xe4, 0xa2, 0x08, 0xe6, 0x4a, 0x8f, 0x20, 0x42},
+        {0x91, 0xf5, 0x81, 0xa1, 0x27, 0x56, 0x39, 0x2d, 0xa4, 0xb8, 0xc0, 0xcf, 0x5e, 0xf0, 0x2b, 0x95},
+        {0x4f, 0x44, 0xc1, 0xc7, 0xfb, 0xeb, 0xb6, 0xf9, 0x60, 0x18, 0x29, 0xf3, 0x89, 0x7b, 0xfd, 0x65}},
+    {24,
+        {0x4e, 0xef, 0x51, 0x07, 0x45, 0x9b, 0xdd, 0xf8, 0xf2, 0x4f, 0xc7, 0x65, 0x6f, 0xd4, 0x89, 0x6d,
+         0xa8, 0x71, 0x1d, 0xb5, 0x04, 0x00, 0xc0, 0x16},
+        {0x48, 0x47, 0xf6, 0x92, 0xb8, 0x86, 0xce, 0x8d, 0x7f, 0x4d, 0x67, 0x39, 0x50, 0x90, 0xb3, 0x53,
+         0x4e, 0xfd, 0x7b, 0x0d, 0x29, 0x8d, 0xa3, 0x4b},
+        {0x7c, 0x5d, 0x14, 0xed, 0x83, 0xda, 0xb8, 0x75, 0xac, 0x25, 0xce, 0x7f, 0xee, 0xd6, 0xef, 0x83,
+         0x7d, 0x58, 0xe7, 0x9d, 0xc6, 0x01, 0xfb, 0x3c}},
+    {32,
+        {0x5a, 0x86, 0xb7, 0x37, 0xea, 0xea, 0x8e, 0xe9, 0x76, 0xa0, 0xa2, 0x4d, 0xa6, 0x3e, 0x7e, 0xd7,
+         0xee, 0xfa, 0xd1, 0x8a, 0x10, 0x1c, 0x12, 0x11, 0xe2, 0xb3, 0x65, 0x0c, 0x51, 0x87, 0xc2, 0xa8},
+        {0xa6, 0x50, 0x54, 0x72, 0x08, 0x25, 0x1f, 0x6d, 0x42, 0x37, 0xe6, 0x61, 0xc7, 0xbf, 0x4c, 0x77,
+         0xf3, 0x35, 0x39, 0x03, 0x94, 0xc3, 0x7f, 0xa1, 0xa9, 0xf9, 0xbe, 0x83, 0x6a, 0xc2, 0x85, 0x09},
+        {0x42, 0xe6, 0x1e, 0x17, 0x4f, 0xbb, 0x38, 0x97, 0xd6, 0xdd, 0x6c, 0xef, 0x3d, 0xd2, 0x80, 0x2f,
+         0xe6, 0x7b, 0x33, 0x19, 0x53, 0xb0, 0x61, 0x14, 0xa6, 0x5c, 0x77, 0x28, 0x59, 0xdf, 0xc1, 0xaa}},
+};
+
+/* The key length of this run, and its vector. */
+static size_t key_length;
+static const uint8_t *rnd1, *rnd2, *keys_hash;
+
+/* Lengths that are not the run's: of the other runs, its neighbours, none, and more than a value holds. */
+static const size_t wrong_lengths[] = {0, 1, 15, 16, 17, 23, 24, 25, 31, 32, 33, 48, 64, 128, 255};
+
+/* A value that says so many bytes. All 32 places are filled. */
+static plaid_value said_of(size_t said, const uint8_t *bytes)
+{
+    plaid_value v;
+    memset(v.bytes, CANARY, sizeof v.bytes);
+    memcpy(v.bytes, bytes, key_length);
+    v.length = (uint8_t)said;
+    return v;
+}
+
+/* One of L bytes. Behind them stand others, which nobody looks at. */
+static plaid_value value_of(const uint8_t *bytes)
+{
+    return said_of(key_length, bytes);
+}
+
+static plaid_value marked_value(unsigned field)
+{
+    uint8_t bytes[PLAID_VALUE_MOST];
+    mark(bytes, sizeof bytes, field);
+    return value_of(bytes);
+}
+
+/* L bytes as the first of 32, and zeros behind them. */
+static bool held_is(const uint8_t held[PLAID_VALUE_MOST], const uint8_t *bytes)
+{
+    return memcmp(held, bytes, key_length) == 0 && all(held + key_length, PLAID_VALUE_MOST - key_length, 0);
+}
+
+/* A value handed back: of L bytes; or after a decline. */
+static bool value_is(const plaid_value *v, const uint8_t *bytes)
+{
+    return v->length == key_length && held_is(v->bytes, bytes);
+}
+
+static bool value_is_zero(const plaid_value *v)
+{
+    return v->length == 0 && all(v->bytes, sizeof v->bytes, 0);
+}
 
 /*
  * Results
@@ -81,7 +148,7 @@ static size_t extent(const result *r)
 /* A result of more than 16 bytes goes where the first argument points, which the function also returns (System V ABI, x86-64). */
 typedef void *raw_load(void *, const plaid_key_set *, size_t, plaid_given, const uint8_t *, size_t);
 typedef void *raw_command(void *, plaid_card, const uint8_t *, size_t, const uint8_t *, size_t, uint8_t *, size_t);
-typedef void *raw_open(void *, plaid_ids, const uint8_t *, size_t);
+typedef void *raw_open(void *, size_t, plaid_ids, const uint8_t *, size_t);
 typedef void *raw_seal(void *, plaid_sealing, const uint8_t *, size_t, uint8_t *, size_t);
 /* One of up to 16 bytes comes in two registers. */
 typedef struct {
@@ -121,19 +188,20 @@ static load_case full_load(void)
     for (unsigned i = 0; i < LENGTH(c.sets); i++) {
         c.sets[i].id.value = (uint16_t)(0x0102 + 0x1111 * i);
         c.sets[i].handle = (uint8_t)(0x21 + i);
-        mark(c.sets[i].fa_key, sizeof c.sets[i].fa_key, i);
+        c.sets[i].fa_key = marked_value(i);
     }
     for (unsigned i = 0; i < LENGTH(c.given.modes); i++) {
         c.given.modes[i].id.value = (uint16_t)(0xF00D - 0x0E0F * i);
         c.given.modes[i].start = 1 + 61 * i;
         c.given.modes[i].len = 48 + i;
     }
+    c.given.key_length = key_length;
     c.set_count = PLAID_CARD_KEY_SETS;
     c.given.mode_count = PLAID_CARD_MODES;
     c.area_len = PLAID_CARD_AREA;
     mark(c.area, sizeof c.area, 20);
     mark(c.given.div_data, sizeof c.given.div_data, 21);
-    mark(c.given.shill_key, sizeof c.given.shill_key, 22);
+    c.given.shill_key = marked_value(22);
     c.given.shill_handle = 0x77;
     return c;
 }
@@ -151,7 +219,7 @@ static unsigned load_number(const load_case *c)
 static bool set_slot_is(const plaid_key_set_slot *slot, const plaid_key_set *set)
 {
     return slot->held && slot->id.value == set->id.value && slot->handle == set->handle
-        && memcmp(slot->fa_key, set->fa_key, PLAID_KEY) == 0;
+        && held_is(slot->fa_key, set->fa_key.bytes);
 }
 
 static bool mode_slot_is(const plaid_mode_slot *slot, const plaid_mode *mode)
@@ -169,7 +237,8 @@ static void check_card(const plaid_card *card, const load_case *c)
     CHECK(memcmp(card->area, c->area, c->area_len) == 0);
     CHECK(all(card->area + c->area_len, PLAID_CARD_AREA - c->area_len, 0));
     CHECK(memcmp(card->div_data, c->given.div_data, PLAID_DIV_DATA) == 0);
-    CHECK(memcmp(card->shill_key, c->given.shill_key, PLAID_KEY) == 0);
+    CHECK(held_is(card->shill_key, c->given.shill_key.bytes));
+    CHECK(card->key_length == key_length);
     CHECK(card->shill_handle == c->given.shill_handle);
     CHECK(card->reply_size == 5);
 }
@@ -185,7 +254,7 @@ static void check_loaded(const load_case *c)
         CHECK(loaded.number == PLAID_DONE);
         check_card(&loaded.card, c);
         CHECK(!loaded.card.session.opened && loaded.card.session.id.value == 0);
-        CHECK(all(loaded.card.session.rnd1, PLAID_RND, 0));
+        CHECK(all(loaded.card.session.rnd1, PLAID_VALUE_MOST, 0));
     }
     CHECK_SIZE(&r, plaid_loaded, card.session.rnd1);
 }
@@ -204,15 +273,24 @@ static void load_fields(void)
 static void load_order(void)
 {
     load_case c = full_load(), right = full_load();
+    c.given.key_length = 20;
     c.set_count = PLAID_CARD_KEY_SETS + 1;
+    c.sets[6].fa_key.length--;
+    c.given.shill_key.length++;
     c.sets[1].id = c.sets[0].id;
     c.sets[7].handle = c.given.shill_handle;
     c.given.mode_count = PLAID_CARD_MODES + 1;
     c.given.modes[15].id = c.given.modes[3].id;
     c.area_len = PLAID_CARD_AREA + 1;
     c.given.modes[4].len = 0;
+    CHECK(load_number(&c) == PLAID_DECLINE_KEY_LENGTH);
+    c.given.key_length = key_length;
     CHECK(load_number(&c) == PLAID_DECLINE_KEY_SET_COUNT);
     c.set_count = PLAID_CARD_KEY_SETS;
+    CHECK(load_number(&c) == PLAID_DECLINE_VALUE_LENGTH);
+    c.sets[6].fa_key = right.sets[6].fa_key;
+    CHECK(load_number(&c) == PLAID_DECLINE_VALUE_LENGTH);
+    c.given.shill_key = right.given.shill_key;
     CHECK(load_number(&c) == PLAID_DECLINE_KEY_SET_REPEATED);
     c.sets[1].id = right.sets[1].id;
     CHECK(load_number(&c) == PLAID_DECLINE_SHILL_HANDLE);
@@ -228,12 +306,72 @@ static void load_order(void)
     CHECK(load_number(&c) == PLAID_DONE);
 }
 
+/* No card results: nothing of what was given stands in it. */
+static bool no_card(const plaid_card *card)
+{
+    for (size_t i = 0; i < PLAID_CARD_KEY_SETS; i++)
+        if (card->sets[i].held || card->sets[i].id.value != 0 || card->sets[i].handle != 0
+            || !all(card->sets[i].fa_key, PLAID_VALUE_MOST, 0))
+            return false;
+    for (size_t i = 0; i < PLAID_CARD_MODES; i++)
+        if (card->modes[i].held || card->modes[i].id.value != 0 || card->modes[i].start != 0 || card->modes[i].len != 0)
+            return false;
+    return all(card->area, PLAID_CARD_AREA, 0) && all(card->div_data, PLAID_DIV_DATA, 0) && all(card->shill_key, PLAID_VALUE_MOST, 0)
+        && card->shill_handle == 0 && card->key_length == 0 && card->reply_size == 0 && !card->session.opened
+        && card->session.id.value == 0 && all(card->session.rnd1, PLAID_VALUE_MOST, 0);
+}
+
+static void check_no_card(const load_case *c, unsigned number)
+{
+    plaid_loaded loaded = load(c);
+    CHECK(loaded.number == number && no_card(&loaded.card));
+}
+
+/* Numbers that may be given as L, and whether each is one. */
+static size_t some_length(size_t i)
+{
+    static const size_t large[] = {128, 255, 256 + 16, UINT32_MAX, ((size_t)1 << 32) + 24, SIZE_MAX - 15, SIZE_MAX};
+    return i <= 64 ? i : large[i - 65];
+}
+#define SOME_LENGTHS (65 + 7)
+
+static bool lawful(size_t l)
+{
+    return l == 16 || l == 24 || l == 32;
+}
+
+/* L, then each key that is not of L bytes. A set past the count is not looked at. */
+static void load_lengths(void)
+{
+    for (size_t i = 0; i < SOME_LENGTHS; i++) {
+        load_case c = full_load();
+        size_t l = c.given.key_length = some_length(i);
+        CHECK(PLAID_IS_KEY_LENGTH(l) == lawful(l));
+        CHECK(load_number(&c) == (l == key_length ? PLAID_DONE : lawful(l) ? PLAID_DECLINE_VALUE_LENGTH : PLAID_DECLINE_KEY_LENGTH));
+        if (!lawful(l))
+            check_no_card(&c, PLAID_DECLINE_KEY_LENGTH);
+    }
+    for (size_t i = 0; i < LENGTH(wrong_lengths); i++) {
+        size_t said = wrong_lengths[i];
+        load_case c = full_load();
+        c.given.shill_key.length = (uint8_t)said;
+        CHECK(load_number(&c) == (said == key_length ? PLAID_DONE : PLAID_DECLINE_VALUE_LENGTH));
+        for (size_t set = 0; set <= PLAID_CARD_KEY_SETS; set++) {
+            c = full_load();
+            c.sets[set].fa_key.length = (uint8_t)said;
+            bool looked_at = set < PLAID_CARD_KEY_SETS;
+            CHECK(load_number(&c) == (said == key_length || !looked_at ? PLAID_DONE : PLAID_DECLINE_VALUE_LENGTH));
+            if (said != key_length && looked_at)
+                check_no_card(&c, PLAID_DECLINE_VALUE_LENGTH);
+        }
+    }
+}
+
 static void load_counts(void)
 {
     load_case c = full_load();
     c.set_count = 0;
-    CHECK(load_number(&c) == PLAID_DECLINE_KEY_SET_COUNT);
-    CHECK(load(&c).card.reply_size == 0 && !load(&c).card.sets[0].held && !load(&c).card.modes[0].held);
+    check_no_card(&c, PLAID_DECLINE_KEY_SET_COUNT);
     c.set_count = 1;
     CHECK(load_number(&c) == PLAID_DONE);
     c.given.mode_count = 0;
@@ -326,7 +464,7 @@ static call_case call_of(const uint8_t *command, size_t command_len)
     memcpy(c.command, command, command_len);
     c.command_len = command_len;
     mark(c.fresh, sizeof c.fresh, 30);
-    memcpy(c.fresh, rnd1, sizeof rnd1);
+    memcpy(c.fresh, rnd1, key_length);
     c.fresh_len = PLAID_FRESH;
     memset(c.out, CANARY, sizeof c.out);
     c.out_len = PLAID_OUTPUT;
@@ -382,14 +520,14 @@ static bool counts_are(const plaid_answer *a, size_t compare, size_t decipher, s
 
 static void check_block(const uint8_t *block, const load_case *c, const uint8_t *fresh, uint16_t id)
 {
-    const uint8_t *text = block + 3 + PLAID_FRESH_PADS;
+    const uint8_t *text = block + 3 + PLAID_FRESH_PADS(key_length);
     CHECK(block[0] == 0 && block[1] == 2 && text[-1] == 0);
-    CHECK(memcmp(block + 2, fresh + PLAID_FRESH_ANY, PLAID_FRESH_PADS) == 0);
+    CHECK(memcmp(block + 2, fresh + PLAID_FRESH_ANY(key_length), PLAID_FRESH_PADS(key_length)) == 0);
     CHECK(text[0] == id >> 8 && text[1] == (id & 0xFF));
     CHECK(memcmp(text + 2, c->given.div_data, PLAID_DIV_DATA) == 0);
-    CHECK(memcmp(text + 2 + PLAID_DIV_DATA, rnd1, PLAID_RND) == 0);
-    CHECK(memcmp(text + 2 + PLAID_DIV_DATA + PLAID_RND, rnd1, PLAID_RND) == 0);
-    CHECK(text + 2 + PLAID_DIV_DATA + 2 * PLAID_RND == block + PLAID_BLOCK);
+    CHECK(memcmp(text + 2 + PLAID_DIV_DATA, rnd1, key_length) == 0);
+    CHECK(memcmp(text + 2 + PLAID_DIV_DATA + key_length, rnd1, key_length) == 0);
+    CHECK(text + 2 + PLAID_DIV_DATA + 2 * key_length == block + PLAID_BLOCK);
 }
 
 static void initial_accepted(void)
@@ -408,7 +546,7 @@ static void initial_accepted(void)
         CHECK(o[i].sum == sum_of_place(&l, id.value));
         check_card(&o[i].card, &l);
         CHECK(o[i].card.session.opened && o[i].card.session.id.value == id.value);
-        CHECK(memcmp(o[i].card.session.rnd1, rnd1, PLAID_RND) == 0);
+        CHECK(held_is(o[i].card.session.rnd1, rnd1));
     }
     check_block(c.out, &l, c.fresh, id.value);
     CHECK(all(c.out + PLAID_ANSWER_INITIAL, sizeof c.out - PLAID_ANSWER_INITIAL, CANARY));
@@ -422,7 +560,7 @@ static void initial_refused(void)
     plaid_outcome o = call(load(&l).card, &c);
     CHECK(o.answer.number == PLAID_DONE && o.answer.status == PLAID_ANSWER_OK && o.answer.length == PLAID_ANSWER_INITIAL);
     CHECK(o.answer.handle == l.given.shill_handle && !o.card.session.opened);
-    CHECK(memcmp(c.out + 3 + PLAID_FRESH_PADS, c.fresh, PLAID_FRESH_ANY) == 0);
+    CHECK(memcmp(c.out + 3 + PLAID_FRESH_PADS(key_length), c.fresh, PLAID_FRESH_ANY(key_length)) == 0);
 }
 
 /* An initial command with these data: taken for the sixth set, or refused like a list that has no set in common. A session was open. */
@@ -443,7 +581,7 @@ static void check_form(const char *name, const uint8_t *data, size_t count, bool
     if (taken)
         check_block(c.out, &l, c.fresh, l.sets[5].id.value);
     else
-        check(memcmp(c.out + 3 + PLAID_FRESH_PADS, c.fresh, PLAID_FRESH_ANY) == 0, name, __LINE__);
+        check(memcmp(c.out + 3 + PLAID_FRESH_PADS(key_length), c.fresh, PLAID_FRESH_ANY(key_length)) == 0, name, __LINE__);
 }
 
 /* Data in hexadecimal. The card's sixth set is 5657, its first 0102; it has no EEEE. */
@@ -576,7 +714,7 @@ static void command_order(plaid_card card, call_case c)
 {
     call_case right = c;
     c.fresh_len = PLAID_FRESH + 1;
-    c.fresh[PLAID_FRESH_ANY] = 0;
+    c.fresh[PLAID_FRESH_ANY(key_length)] = 0;
     c.out_len = PLAID_OUTPUT - 1;
     memset(c.command, 0xFF, sizeof c.command);
     c.command_len = 3;
@@ -585,7 +723,7 @@ static void command_order(plaid_card card, call_case c)
     CHECK_DECLINED(PLAID_DECLINE_FRESH_COUNT, 0);
     c.fresh_len = PLAID_FRESH;
     CHECK_DECLINED(PLAID_DECLINE_PAD_BYTE, 0);
-    c.fresh[PLAID_FRESH_ANY] = 1;
+    c.fresh[PLAID_FRESH_ANY(key_length)] = 1;
     CHECK_DECLINED(PLAID_DECLINE_OUTPUT, 0);
     c.out_len = PLAID_OUTPUT;
     CHECK_DECLINED(PLAID_DONE, PLAID_ANSWER_WRONG_LENGTH);
@@ -608,8 +746,8 @@ static void command_order(plaid_card card, call_case c)
 
 static void command_fresh(plaid_card card, call_case c)
 {
-    CHECK(PLAID_FRESH_ANY + PLAID_FRESH_PADS == PLAID_FRESH);
-    c.fresh[PLAID_FRESH_ANY - 1] = 0;
+    CHECK(PLAID_FRESH_ANY(key_length) + PLAID_FRESH_PADS(key_length) == PLAID_FRESH);
+    memset(c.fresh, 0, PLAID_FRESH_ANY(key_length));
     CHECK(call(card, &c).answer.number == PLAID_DONE);
     c.fresh[PLAID_FRESH - 1] = 0;
     CHECK_DECLINED(PLAID_DECLINE_PAD_BYTE, 0);
@@ -708,7 +846,7 @@ static void list_fields(void)
 /* A block that opens for a KeySetID. */
 static void write_block(uint8_t *block, uint16_t id, const uint8_t *div_data, const uint8_t *rnd)
 {
-    uint8_t *text = block + 3 + PLAID_FRESH_PADS;
+    uint8_t *text = block + 3 + PLAID_FRESH_PADS(key_length);
     memset(block, 0x99, PLAID_BLOCK);
     block[0] = 0;
     block[1] = 2;
@@ -716,15 +854,15 @@ static void write_block(uint8_t *block, uint16_t id, const uint8_t *div_data, co
     text[0] = (uint8_t)(id >> 8);
     text[1] = (uint8_t)id;
     memcpy(text + 2, div_data, PLAID_DIV_DATA);
-    memcpy(text + 2 + PLAID_DIV_DATA, rnd, PLAID_RND);
-    memcpy(text + 2 + PLAID_DIV_DATA + PLAID_RND, rnd, PLAID_RND);
+    memcpy(text + 2 + PLAID_DIV_DATA, rnd, key_length);
+    memcpy(text + 2 + PLAID_DIV_DATA + key_length, rnd, key_length);
 }
 
 static uint8_t blocks[PLAID_BLOCK * (PLAID_LIST_IDS + 1)];
 
 static unsigned open_number(plaid_ids of, size_t blocks_len)
 {
-    return plaid_open(of, blocks, blocks_len).number;
+    return plaid_open(key_length, of, blocks, blocks_len).number;
 }
 
 /* Two blocks open; the first of them wins. */
@@ -732,7 +870,7 @@ static void open_fields(void)
 {
     static result r;
     plaid_ids of = ids_of(PLAID_LIST_IDS);
-    uint8_t div_data[PLAID_DIV_DATA], other[PLAID_RND];
+    uint8_t div_data[PLAID_DIV_DATA], other[PLAID_VALUE_MOST];
     mark(div_data, sizeof div_data, 40);
     mark(other, sizeof other, 41);
     memset(blocks, 0, sizeof blocks);
@@ -741,10 +879,10 @@ static void open_fields(void)
     fill(&r);
     for (int i = 0; i < 2; i++) {
         plaid_opened o;
-        CHECK(open_at(r.bytes[i], of, blocks, PLAID_LIST_IDS * PLAID_BLOCK) == r.bytes[i]);
+        CHECK(open_at(r.bytes[i], key_length, of, blocks, PLAID_LIST_IDS * PLAID_BLOCK) == r.bytes[i]);
         memcpy(&o, r.bytes[i], sizeof o);
         CHECK(o.number == PLAID_DONE && o.place == 11 && o.id.value == of.ids[11].value);
-        CHECK(memcmp(o.div_data, div_data, PLAID_DIV_DATA) == 0 && memcmp(o.rnd1, rnd1, PLAID_RND) == 0);
+        CHECK(memcmp(o.div_data, div_data, PLAID_DIV_DATA) == 0 && value_is(&o.rnd1, rnd1));
     }
     CHECK_SIZE(&r, plaid_opened, rnd1);
 }
@@ -761,8 +899,25 @@ static void open_declined(void)
     of.count = 11;
     CHECK(open_number(of, 11 * PLAID_BLOCK) == PLAID_DECLINE_NONE_OPENS);
     of.count = 12;
-    blocks[11 * PLAID_BLOCK + 2 + PLAID_FRESH_PADS - 1] = 0;
+    blocks[11 * PLAID_BLOCK + 2 + PLAID_FRESH_PADS(key_length) - 1] = 0;
     CHECK(open_number(of, 12 * PLAID_BLOCK) == PLAID_DECLINE_NONE_OPENS);
+}
+
+/* 21 comes first. A reader of another L opens none of this one's blocks. After a decline all is zero. */
+static void open_lengths(void)
+{
+    plaid_ids of = ids_of(12), none = ids_of(0);
+    uint8_t div_data[PLAID_DIV_DATA];
+    mark(div_data, sizeof div_data, 40);
+    memset(blocks, 0, sizeof blocks);
+    write_block(blocks + 11 * PLAID_BLOCK, of.ids[11].value, div_data, rnd1);
+    for (size_t i = 0; i < SOME_LENGTHS; i++) {
+        size_t l = some_length(i);
+        plaid_opened o = plaid_open(l, of, blocks, 12 * PLAID_BLOCK);
+        CHECK(o.number == (l == key_length ? PLAID_DONE : lawful(l) ? PLAID_DECLINE_NONE_OPENS : PLAID_DECLINE_KEY_LENGTH));
+        CHECK(l == key_length || (o.place == 0 && o.id.value == 0 && all(o.div_data, PLAID_DIV_DATA, 0) && value_is_zero(&o.rnd1)));
+        CHECK(plaid_open(l, none, blocks, 1).number == (lawful(l) ? PLAID_DECLINE_BLOCKS : PLAID_DECLINE_KEY_LENGTH));
+    }
 }
 
 /* The set whose session is open is the sixth. */
@@ -770,63 +925,118 @@ static plaid_sealing sealing_of(const load_case *l, size_t mode)
 {
     plaid_sealing of;
     memset(&of, 0, sizeof of);
-    memcpy(of.fa_key, l->sets[5].fa_key, PLAID_KEY);
+    of.key_length = key_length;
+    of.fa_key = l->sets[5].fa_key;
     memcpy(of.div_data, l->given.div_data, PLAID_DIV_DATA);
-    memcpy(of.rnd1, rnd1, PLAID_RND);
-    memcpy(of.rnd2, rnd2, PLAID_RND);
+    of.rnd1 = value_of(rnd1);
+    of.rnd2 = value_of(rnd2);
     of.mode = l->given.modes[mode].id;
     return of;
 }
 
-static uint8_t payload[PLAID_PAYLOAD + 1];
+/* One byte more than the longest of any L. */
+static uint8_t payload[PLAID_PAYLOAD(16) + 1];
 
 static void seal_fields(void)
 {
     static result r;
+    size_t least = PLAID_FINAL_COMMAND_LEAST(key_length);
     load_case l = full_load();
     uint8_t out[PLAID_FINAL_COMMAND_MOST + 8];
     memset(out, CANARY, sizeof out);
     fill(&r);
     for (int i = 0; i < 2; i++) {
         plaid_sealed s;
-        CHECK(seal_at(r.bytes[i], sealing_of(&l, 3), payload, 0, out, PLAID_FINAL_COMMAND_LEAST) == r.bytes[i]);
+        CHECK(seal_at(r.bytes[i], sealing_of(&l, 3), payload, 0, out, least) == r.bytes[i]);
         memcpy(&s, r.bytes[i], sizeof s);
-        CHECK(s.number == PLAID_DONE && s.length == PLAID_FINAL_COMMAND_LEAST);
-        CHECK(memcmp(s.keys_hash, keys_hash, PLAID_KEYS_HASH) == 0);
+        CHECK(s.number == PLAID_DONE && s.length == least);
+        CHECK(value_is(&s.keys_hash, keys_hash));
     }
     CHECK_SIZE(&r, plaid_sealed, keys_hash);
-    CHECK(out[0] == 0 && out[1] == PLAID_INS_FINAL && out[2] == 0 && out[3] == 0 && out[4] == PLAID_FINAL_COMMAND_LEAST - 6);
-    CHECK(out[PLAID_FINAL_COMMAND_LEAST - 1] == 0);
-    CHECK(all(out + PLAID_FINAL_COMMAND_LEAST, sizeof out - PLAID_FINAL_COMMAND_LEAST, CANARY));
+    CHECK(out[0] == 0 && out[1] == PLAID_INS_FINAL && out[2] == 0 && out[3] == 0 && out[4] == least - 6);
+    CHECK(out[least - 1] == 0);
+    CHECK(all(out + least, sizeof out - least, CANARY));
 }
 
 static void seal_declined(void)
 {
     load_case l = full_load();
     plaid_sealing of = sealing_of(&l, 3);
+    size_t least = PLAID_FINAL_COMMAND_LEAST(key_length), most = PLAID_PAYLOAD(key_length);
     uint8_t out[PLAID_FINAL_COMMAND_MOST];
     memset(out, CANARY, sizeof out);
-    CHECK(plaid_seal(of, payload, PLAID_PAYLOAD + 1, out, 0).number == PLAID_DECLINE_PAYLOAD);
-    CHECK(plaid_seal(of, payload, PLAID_PAYLOAD, out, PLAID_FINAL_COMMAND_MOST - 1).number == PLAID_DECLINE_SEAL_OUTPUT);
-    CHECK(plaid_seal(of, payload, 0, out, PLAID_FINAL_COMMAND_LEAST - 1).number == PLAID_DECLINE_SEAL_OUTPUT);
-    CHECK(plaid_seal(of, payload, 0, out, PLAID_FINAL_COMMAND_LEAST - 1).length == 0);
+    CHECK(plaid_seal(of, payload, most + 1, out, 0).number == PLAID_DECLINE_PAYLOAD);
+    CHECK(plaid_seal(of, payload, most, out, PLAID_FINAL_COMMAND_MOST - 1).number == PLAID_DECLINE_SEAL_OUTPUT);
+    CHECK(plaid_seal(of, payload, 0, out, least - 1).number == PLAID_DECLINE_SEAL_OUTPUT);
+    plaid_sealed none = plaid_seal(of, payload, 0, out, least - 1);
+    CHECK(none.length == 0 && value_is_zero(&none.keys_hash));
     CHECK(all(out, sizeof out, CANARY));
-    CHECK(plaid_seal(of, payload, PLAID_PAYLOAD, out, PLAID_FINAL_COMMAND_MOST).length == PLAID_FINAL_COMMAND_MOST);
+    CHECK(plaid_seal(of, payload, most, out, PLAID_FINAL_COMMAND_MOST).length == PLAID_FINAL_COMMAND_MOST);
+}
+
+/* A Seal that has to be declined, with everything else wrong too: nothing written, all zero. */
+static void check_seal(plaid_sealing of, unsigned number)
+{
+    uint8_t out[PLAID_FINAL_COMMAND_MOST];
+    memset(out, CANARY, sizeof out);
+    plaid_sealed s = plaid_seal(of, payload, sizeof payload, out, 0);
+    CHECK(s.number == number && s.length == 0 && value_is_zero(&s.keys_hash));
+    s = plaid_seal(of, payload, 0, out, sizeof out);
+    CHECK(s.number == (number == PLAID_DECLINE_PAYLOAD ? PLAID_DONE : number));
+    CHECK(number == PLAID_DECLINE_PAYLOAD || all(out, sizeof out, CANARY));
+}
+
+static void seal_lengths(void)
+{
+    load_case l = full_load();
+    for (size_t i = 0; i < SOME_LENGTHS; i++) {
+        plaid_sealing of = sealing_of(&l, 3);
+        of.key_length = some_length(i);
+        unsigned number = of.key_length == key_length ? PLAID_DECLINE_PAYLOAD : PLAID_DECLINE_VALUE_LENGTH;
+        check_seal(of, lawful(of.key_length) ? number : PLAID_DECLINE_KEY_LENGTH);
+        of.fa_key.length = 0;
+        check_seal(of, lawful(of.key_length) ? PLAID_DECLINE_VALUE_LENGTH : PLAID_DECLINE_KEY_LENGTH);
+    }
+    for (size_t i = 0; i < LENGTH(wrong_lengths); i++) {
+        uint8_t said = (uint8_t)wrong_lengths[i];
+        unsigned number = said == key_length ? PLAID_DECLINE_PAYLOAD : PLAID_DECLINE_VALUE_LENGTH;
+        plaid_sealing of = sealing_of(&l, 3);
+        of.fa_key.length = said;
+        check_seal(of, number);
+        of = sealing_of(&l, 3);
+        of.rnd1.length = said;
+        check_seal(of, number);
+        of = sealing_of(&l, 3);
+        of.rnd2.length = said;
+        check_seal(of, number);
+    }
 }
 
 /* Accept with the result's two registers as bytes of the struct. */
-static plaid_accepted accept(const uint8_t *div_data, size_t record_length, const uint8_t *response, size_t response_len, uint8_t *work,
-    size_t work_len)
+static plaid_accepted accept_of(plaid_accepting of, const uint8_t *response, size_t response_len, uint8_t *work, size_t work_len)
 {
-    plaid_accepting of;
     plaid_accepted a;
-    memcpy(of.keys_hash, keys_hash, PLAID_KEYS_HASH);
-    memcpy(of.div_data, div_data, PLAID_DIV_DATA);
-    of.record_length = record_length;
     registers r = accept_words(of, response, response_len, work, work_len);
     CHECK(sizeof a == sizeof r);
     memcpy(&a, &r, sizeof a);
     return a;
+}
+
+static plaid_accepting accepting_of(const uint8_t *div_data, size_t record_length)
+{
+    plaid_accepting of;
+    memset(&of, 0, sizeof of);
+    of.key_length = key_length;
+    of.keys_hash = value_of(keys_hash);
+    memcpy(of.div_data, div_data, PLAID_DIV_DATA);
+    of.record_length = record_length;
+    return of;
+}
+
+static plaid_accepted accept(const uint8_t *div_data, size_t record_length, const uint8_t *response, size_t response_len, uint8_t *work,
+    size_t work_len)
+{
+    return accept_of(accepting_of(div_data, record_length), response, response_len, work, work_len);
 }
 
 /* The record's place with the result's two registers as bytes of the struct. */
@@ -839,13 +1049,19 @@ static plaid_part record_part(const uint8_t *work, size_t work_len, plaid_accept
     return p;
 }
 
+/* A final command's counts, for the longest payload: one encipherment more for L over 16, one hash block more for 32. */
+static bool final_counts(const plaid_answer *a, size_t reply_size)
+{
+    return counts_are(a, 16, 15, reply_size + (key_length > 16 ? 2 : 1), 3, key_length == 32 ? 2 : 1);
+}
+
 /* The final answer of the card for a mode under the longest payload, in c's output; distinct counts. */
 static plaid_outcome final_answer(const load_case *l, size_t mode, call_case *c)
 {
     call_case first = initial_call(l->sets[5].id);
     plaid_card card = call(load(l).card, &first).card;
     uint8_t command[PLAID_FINAL_COMMAND_MOST];
-    plaid_sealed s = plaid_seal(sealing_of(l, mode), payload, PLAID_PAYLOAD, command, sizeof command);
+    plaid_sealed s = plaid_seal(sealing_of(l, mode), payload, PLAID_PAYLOAD(key_length), command, sizeof command);
     plaid_outcome o[2];
     *c = call_of(command, s.length);
     c->out_len = sizeof c->out;
@@ -862,8 +1078,8 @@ static void session(void)
     uint8_t work[PLAID_ANSWER_FINAL_MOST];
     size_t record = l.given.modes[3].len;
     CHECK(o.answer.number == PLAID_DONE && o.answer.status == PLAID_ANSWER_OK && o.answer.handle == 0);
-    CHECK(counts_are(&o.answer, 16, 15, 6, 3, 1) && o.answer.length == 80 && o.sum != 0);
-    CHECK(!o.card.session.opened);
+    CHECK(final_counts(&o.answer, 5) && o.answer.length == 80 && o.sum != 0);
+    CHECK(!o.card.session.opened && all(o.card.session.rnd1, PLAID_VALUE_MOST, 0));
     check_card(&o.card, &l);
     CHECK(all(c.out + 80, sizeof c.out - 80, CANARY));
     memset(work, CANARY, sizeof work);
@@ -905,7 +1121,7 @@ static void check_record(const load_case *l, size_t mode, size_t reply_size, siz
     call_case c;
     plaid_outcome o = final_answer(l, mode, &c);
     CHECK(o.answer.status == PLAID_ANSWER_OK && o.answer.length == 16 * reply_size);
-    CHECK(counts_are(&o.answer, 16, 15, reply_size + 1, 3, 1));
+    CHECK(final_counts(&o.answer, reply_size));
     CHECK(all(c.out + 16 * reply_size, sizeof c.out - 16 * reply_size, CANARY));
     memcpy(body, l->area + m->start, m->len);
     for (size_t told = 1; told <= PLAID_CARD_RECORD; told++)
@@ -948,16 +1164,54 @@ static void accept_declined(void)
     CHECK(accept(l.given.div_data, 0, c.out, 81, work, 0).number == PLAID_DECLINE_RESPONSE);
     CHECK(accept(l.given.div_data, 0, c.out, 80, work, 79).number == PLAID_DECLINE_WORK);
     CHECK(all(work, sizeof work, CANARY));
-    plaid_accepted a = accept(l.given.shill_key, record, c.out, 80, work, 80);
+    plaid_accepted a = accept(l.given.shill_key.bytes, record, c.out, 80, work, 80);
     CHECK(a.number == PLAID_DECLINE_AUTHENTICATION && a.length == 0);
     CHECK(record_part(work, sizeof work, a).start == 0 && record_part(work, sizeof work, a).length == 0);
     CHECK(all(work, 80, 0) && all(work + 80, sizeof work - 80, CANARY));
-    CHECK(accept(l.given.shill_key, record, c.out, PLAID_ANSWER_FINAL_LEAST, work, sizeof work).number == PLAID_DECLINE_AUTHENTICATION);
-    CHECK(accept(l.given.shill_key, record, c.out, PLAID_ANSWER_FINAL_MOST, work, sizeof work).number == PLAID_DECLINE_AUTHENTICATION);
+    CHECK(accept(l.given.shill_key.bytes, record, c.out, PLAID_ANSWER_FINAL_LEAST, work, sizeof work).number == PLAID_DECLINE_AUTHENTICATION);
+    CHECK(accept(l.given.shill_key.bytes, record, c.out, PLAID_ANSWER_FINAL_MOST, work, sizeof work).number == PLAID_DECLINE_AUTHENTICATION);
     for (size_t n = 0; n <= 2 * PLAID_ANSWER_FINAL_MOST; n++) {
         bool known = n % 16 == 0 && n >= PLAID_ANSWER_FINAL_LEAST && n <= PLAID_ANSWER_FINAL_MOST;
-        unsigned number = accept(l.given.shill_key, record, c.out, n, work, sizeof work).number;
+        unsigned number = accept(l.given.shill_key.bytes, record, c.out, n, work, sizeof work).number;
         CHECK(number == (known ? PLAID_DECLINE_AUTHENTICATION : PLAID_DECLINE_RESPONSE));
+    }
+}
+
+/* An Accept that has to be declined by 21 or 22, with everything else wrong too, or right: nothing written, the part empty. */
+static void check_no_accept(plaid_accepting of, const uint8_t *response, unsigned number)
+{
+    uint8_t work[PLAID_ANSWER_FINAL_MOST];
+    memset(work, CANARY, sizeof work);
+    plaid_accepted a = accept_of(of, response, 80, work, sizeof work);
+    CHECK(a.number == number && a.length == 0);
+    CHECK(record_part(work, sizeof work, a).start == 0 && record_part(work, sizeof work, a).length == 0);
+    of.record_length = 0;
+    CHECK(accept_of(of, response, 80, work, 79).number == number && accept_of(of, response, 81, work, 0).number == number);
+    CHECK(all(work, sizeof work, CANARY));
+}
+
+static void accept_lengths(void)
+{
+    load_case l = full_load();
+    call_case c;
+    uint8_t work[PLAID_ANSWER_FINAL_MOST];
+    plaid_accepting right = accepting_of(l.given.div_data, l.given.modes[3].len);
+    final_answer(&l, 3, &c);
+    CHECK(accept_of(right, c.out, 80, work, sizeof work).number == PLAID_DONE);
+    for (size_t i = 0; i < SOME_LENGTHS; i++) {
+        plaid_accepting of = right;
+        of.key_length = some_length(i);
+        if (of.key_length == key_length)
+            continue;
+        check_no_accept(of, c.out, lawful(of.key_length) ? PLAID_DECLINE_VALUE_LENGTH : PLAID_DECLINE_KEY_LENGTH);
+        of.keys_hash.length = 0;
+        check_no_accept(of, c.out, lawful(of.key_length) ? PLAID_DECLINE_VALUE_LENGTH : PLAID_DECLINE_KEY_LENGTH);
+    }
+    for (size_t i = 0; i < LENGTH(wrong_lengths); i++) {
+        plaid_accepting of = right;
+        of.keys_hash.length = (uint8_t)wrong_lengths[i];
+        if (wrong_lengths[i] != key_length)
+            check_no_accept(of, c.out, PLAID_DECLINE_VALUE_LENGTH);
     }
 }
 
@@ -982,10 +1236,11 @@ static void record_parts(void)
     }
 }
 
-int main(void)
+static void run(void)
 {
     load_fields();
     load_order();
+    load_lengths();
     load_counts();
     load_unequal();
     load_records();
@@ -997,12 +1252,26 @@ int main(void)
     list_fields();
     open_fields();
     open_declined();
+    open_lengths();
     seal_fields();
     seal_declined();
+    seal_lengths();
     session();
     unequal_sessions();
     accept_declined();
+    accept_lengths();
     record_parts();
+}
+
+int main(void)
+{
+    for (size_t i = 0; i < LENGTH(nist); i++) {
+        key_length = nist[i].key_length;
+        rnd1 = nist[i].rnd1;
+        rnd2 = nist[i].rnd2;
+        keys_hash = nist[i].keys_hash;
+        run();
+    }
     printf("%u passed, %u failed\n", passed, failed);
     return failed > 0;
 }

@@ -2,8 +2,8 @@
 #
 #   awk -v dir=DIR -f wrong.awk plaid.h
 #
-# constant: a constant is one more. stack: the same of the stack's figures, which tests/stack holds. swapped: two neighbouring fields of a
-# struct change places. moved: the last of three or more stands first. typed: a field has another type. missing: one of several is left
+# constant: a constant is one more; one that takes L is one more for every L, for those over 16, and for those over 24. stack: the same of
+# the stack's figures, which tests/stack holds. swapped: two neighbouring fields of a struct change places. moved: the last of three or more stands first. typed: a field has another type. missing: one of several is left
 # out. declared: a function takes one argument more.
 
 { line[NR] = $0 }
@@ -25,7 +25,7 @@ function other_type(of) {
     if (of == "size_t") return "ptrdiff_t"
     if (of == "bool") return "uint8_t"
     if (of == "plaid_key_set_id") return "plaid_op_mode_id"
-    if (of == "plaid_op_mode_id") return "plaid_key_set_id"
+    if (of == "plaid_op_mode_id" || of == "plaid_value") return "plaid_key_set_id"
     return "plaid_key_set"
 }
 
@@ -73,6 +73,12 @@ END {
         } else if (line[i] ~ /^#define PLAID_[A-Z0-9_]+ [0-9]/) {
             edit[i] = with(i, " " word[3], " (" word[3] " + 1)")
             write(word[2] ~ /^PLAID_STACK_/ ? "stack" : "constant", word[2])
+        } else if (line[i] ~ /^#define PLAID_[A-Z0-9_]+\(l\) /) {
+            body = substr(line[i], index(line[i], "(l) ") + 4)
+            for (over = 0; over < 32; over += over ? 8 : 16) {
+                edit[i] = "#define " word[2] " (((l) > " over ") + " body ")"
+                write("constant", word[2] " for L over " over)
+            }
         } else if (line[i] ~ /^plaid_[a-z]+ plaid_[a-z]+\(/) {
             edit[i] = with(i, "\\(", "(int more, ")
             write("declared", line[i])

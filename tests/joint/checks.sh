@@ -51,7 +51,7 @@ load_line() {
         area+=$record
         i=$((i + 1))
     done
-    echo "load sets=${sets#,} modes=${modes#,} area=$area div=$(at DivData) shill_key=$(at 'ShillKey (AES)') shill_handle=$shill" \
+    echo "load l=16 sets=${sets#,} modes=${modes#,} area=$area div=$(at DivData) shill_key=$(at 'ShillKey (AES)') shill_handle=$shill" \
         "=> number=0 reply_size=$((${#area} > 0 ? $(reply_size) : 0))"
 }
 # B: the most blocks that a record needs with DivData and padding.
@@ -87,16 +87,16 @@ session_lines() {
     [ -z "$(of 'IA command, other lengths')" ] || command=$(of 'IA command, other lengths')
     echo "call command=$command fresh=$(fresh "$(of RND1)" "$(of PS)") out=256 => number=0 status=36864 length=256 handle=$ia" \
         "answer=$(of EM) session=$(decimal "$(of KeySetID)"):$(of RND1)"
-    echo "open ids=${ids#,} blocks=$blocks => number=0 place=$(place "$list" "$(of KeySetID)") id=$(decimal "$(of KeySetID)")" \
+    echo "open l=16 ids=${ids#,} blocks=$blocks => number=0 place=$(place "$list" "$(of KeySetID)") id=$(decimal "$(of KeySetID)")" \
         "div=$(at DivData) rnd1=$(of RND1)"
     command=$(of 'FA command')
-    echo "seal fakey=$(of FAKey) div=$(at DivData) rnd1=$(of RND1) rnd2=$(of RND2) mode=$(decimal "$(of OpModeID)")" \
+    echo "seal l=16 fakey=$(of FAKey) div=$(at DivData) rnd1=$(of RND1) rnd2=$(of RND2) mode=$(decimal "$(of OpModeID)")" \
         "payload=$(or_none "$(of Payload)") out=300 => number=0 length=$((${#command} / 2)) keyshash=$(of KeysHash) command=$command"
     answer=$(of eSTR3)
     echo "call command=$command fresh=$(fresh "" "$(of PS)") out=256 => number=0 status=36864 length=$((${#answer} / 2)) handle=0" \
         "answer=$answer session=-"
     record=$(of ACSRecord)
-    echo "accept keyshash=$(of KeysHash) div=$(at DivData) reclen=$((${#record} / 2)) response=$answer work=$(zeros ${#answer})" \
+    echo "accept l=16 keyshash=$(of KeysHash) div=$(at DivData) reclen=$((${#record} / 2)) response=$answer work=$(zeros ${#answer})" \
         "=> number=0 record=$record work=$(of 'STR3 padded')"
 }
 # The place of a KeySetID in a list, counted from 0.

@@ -92,14 +92,14 @@ turns() {
 # The other maker's card: a record of 16 bytes answered without padding, refusals of any length, a KeySetID that is not the entry's.
 answer_lines() {
     local section='session 1' start size short response
-    start="accept keyshash=$(of KeysHash) div=$(at DivData) reclen=16"
+    start="accept l=16 keyshash=$(of KeysHash) div=$(at DivData) reclen=16"
     short=$(of eSTR3)
     says "answer: unpadded, 32 bytes" "$start response=${short:0:64} work=$(of 'STR3 padded')" "number=20 record=- work=$(zeros 64)80$(zeros 30)"
     for size in 0 16 50 112 256; do
         response=$([ "$size" = 0 ] || zeros $((2 * size)))
         says "answer: $size bytes" "$start response=$(or_none "$response") work=-" "number=18 record=- work=-"
     done
-    says "block: another set's KeySetID" "open ids=2 blocks=$(of EM)" number=15
+    says "block: another set's KeySetID" "open l=16 ids=2 blocks=$(of EM)" number=15
 }
 
 # Session 1's answer, whose body has 16 bytes, taken with other record lengths: what follows the record may be any bytes.
@@ -113,7 +113,7 @@ length_lines() {
         says "record length $size" "$(taken "$size")" "number=20 record=- work=$(zeros 96)"
     done
 }
-taken() { echo "accept keyshash=$(of KeysHash) div=$(at DivData) reclen=$1 response=$(of eSTR3) work=$(of 'STR3 padded')"; }
+taken() { echo "accept l=16 keyshash=$(of KeysHash) div=$(at DivData) reclen=$1 response=$(of eSTR3) work=$(of 'STR3 padded')"; }
 
 # As checks, for the calls above.
 wire_checks() {

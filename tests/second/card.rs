@@ -1,15 +1,17 @@
-//! The card of document 01, with T-01: records of several lengths on one card; and T-02: lists with every length of BER but FF.
+//! The card of document 01, with T-01: records of several lengths on one card; T-02: lists with every length of BER but FF; and T-04: keys of
+//! 16, 24 or 32 bytes.
 
 use crate::aes::{self, Block};
 use crate::fault::Fault;
+use crate::keys;
 use crate::padding;
 use crate::work::Work;
 
-#[derive(Clone, Copy, PartialEq)]
+#[derive(Clone, PartialEq)]
 pub struct KeySet {
     pub id: u16,
     pub handle: u8,
-    pub fa_key: Block,
+    pub fa_key: Vec<u8>,
 }
 
 #[derive(Clone, Copy, PartialEq)]
@@ -19,21 +21,22 @@ pub struct Mode {
     pub len: usize,
 }
 
-/// What a load gives.
+/// What a load gives. The key length is L.
 #[derive(Clone, PartialEq)]
 pub struct Given {
+    pub key_length: usize,
     pub sets: Vec<KeySet>,
     pub modes: Vec<Mode>,
     pub area: Vec<u8>,
     pub div_data: Block,
-    pub shill_key: Block,
+    pub shill_key: Vec<u8>,
     pub shill_handle: u8,
 }
 
-#[derive(Clone, Copy, PartialEq)]
+#[derive(Clone, PartialEq)]
 pub struct Session {
     pub id: u16,
-    pub rnd1: Block,
+    pub rnd1: Vec<u8>,
 }
 
 /// Beside what its load gave, and B, a card keeps only its session. Slots behind the given sets and modes are empty.
@@ -81,9 +84,25 @@ pub fn filled(reply_size: usize) -> usize {
     16 * (reply_size - 2)
 }
 
+/// Every FAKey of the list, then the shill key.
+fn keys_fit(given: &Given, fault: Fault) -> Result<(), Decline> {
+    for set in &given.sets {
+        keys::fits(&set.fa_key, given.key_length, "a FAKey not of L bytes", "a FAKey over 32 bytes")?;
+    }
+    if fault == Fault::ShillKeyNotLookedAt {
+        return Ok(());
+    }
+    keys::fits(&given.shill_key, given.key_length, "shill key not of L bytes", "shill key over 32 bytes")
+}
+
 pub fn load(given: &Given, fault: Fault) -> Result<Card, Decline> {
+    keys::known(given.key_length)?;
+    if fault == Fault::KeysBeforeCount {
+        keys_fit(given, fault)?;
+    }
     decline_if(given.sets.is_empty(), 1, "no key set")?;
     decline_if(given.sets.len() > 8, 1, "over 8 key sets")?;
+    keys_fit(given, fault)?;
     decline_if(has_repeated(given.sets.iter().map(|s| s.id)), 2, "repeated KeySetID")?;
     decline_if(given.sets.iter().any(|s| s.handle == given.shill_handle), 3, "a set with the shill handle")?;
     decline_if(given.modes.is_empty(), 4, "no mode")?;
@@ -119,7 +138,7 @@ impl Answer {
 }
 
 pub fn command(card: &mut Card, command: &[u8], fresh: &[u8], out: &mut [u8], fault: Fault) -> Answer {
-    if let Err(decline) = lent_fault(fresh, out.len()) {
+    if let Err(decline) = lent_fault(card.given.key_length, fresh, out.len(), fault) {
         return Answer::declined(decline.number, 0, decline.why);
     }
     if let Some((status, why)) = frame_fault(command) {
@@ -129,9 +148,14 @@ pub fn command(card: &mut Card, command: &[u8], fresh: &[u8], out: &mut [u8], fa
     if command[1] == 0x87 { initial(card, data, fresh, out, fault) } else { final_command(card, data, fresh, out, fault) }
 }
 
-fn lent_fault(fresh: &[u8], out: usize) -> Result<(), Decline> {
+/// Where the pad bytes start among the fresh ones: behind F.
+fn pads_from(length: usize, fault: Fault) -> usize {
+    if fault == Fault::PadsFrom50 && length == 24 { 50 } else { keys::str1(length) }
+}
+
+fn lent_fault(length: usize, fresh: &[u8], out: usize, fault: Fault) -> Result<(), Decline> {
     decline_if(fresh.len() != 253, 8, "fresh bytes not 253")?;
-    decline_if(fresh[50..].contains(&0), 9, "a zero pad byte")?;
+    decline_if(fresh[pads_from(length, fault)..].contains(&0), 9, "a zero pad byte")?;
     decline_if(out < 256, 10, "output below 256")
 }
 
@@ -245,44 +269,47 @@ fn initial(card: &mut Card, data: &[u8], fresh: &[u8], out: &mut [u8], fault: Fa
     let why = if list.is_none() { "initial refused: malformed" } else { "initial refused: no match" };
     let ids = list.unwrap_or_default();
     let winner = walk(card, &ids, data.len() / 4, &mut work, fault);
-    let mut last = fresh[..50].to_vec();
+    let length = card.given.key_length;
+    let mut last = fresh[..keys::str1(length)].to_vec();
     let (mut handle, mut why) = (card.given.shill_handle, why);
     card.session = winner.map(|slot| {
         let set = &card.given.sets[slot];
-        let rnd1: Block = fresh[..16].try_into().unwrap();
+        let rnd1 = fresh[..length].to_vec();
         last = [&set.id.to_be_bytes()[..], &card.given.div_data, &rnd1, &rnd1].concat();
         (handle, why) = (set.handle, accepted_list(data, ids.len()));
         Session { id: set.id, rnd1 }
     });
-    let block = [&[0, 2], &fresh[50..], &[0], &last].concat();
+    let pads = &fresh[pads_from(length, fault)..][..keys::pads(length)];
+    let block = [&[0, 2], pads, &[0], &last].concat();
     Answer::given(&block, out, handle, work, why)
 }
 
 /// The FAKey and RND1 of a final command: the session's, or what stands for them.
-pub fn final_keys(card: &Card) -> (Block, Block) {
-    let set = |session: &Session| card.given.sets.iter().find(|s| s.id == session.id).unwrap().fa_key;
-    card.session.as_ref().map_or((card.given.shill_key, [0; 16]), |s| (set(s), s.rnd1))
+pub fn final_keys(card: &Card) -> (Vec<u8>, Vec<u8>) {
+    let set = |session: &Session| card.given.sets.iter().find(|s| s.id == session.id).unwrap().fa_key.clone();
+    let none = || (card.given.shill_key.clone(), vec![0; card.given.key_length]);
+    card.session.as_ref().map_or_else(none, |s| (set(s), s.rnd1.clone()))
 }
 
 fn final_command(card: &mut Card, data: &[u8], fresh: &[u8], out: &mut [u8], fault: Fault) -> Answer {
     let mut work = Work::default();
     let (fa_key, rnd1) = final_keys(card);
-    let keys = work.expand(&fa_key);
-    let diversified = work.encipher(&fa_key, &keys, &card.given.div_data);
+    let (length, keys) = (card.given.key_length, work.expand(&fa_key));
+    let diversified = keys::diversified(length, &card.given.div_data, fault, |block| work.encipher(&fa_key, &keys, block));
     let keys = work.expand(&diversified);
     let mut text = aes::cbc_decipher([0; 16], data, |block| work.decipher(&diversified, &keys, block));
     let unpadded = padding::unpadded_length(&text);
     text.resize(240, 0);
     let keys_hash = if fault == Fault::HashSkippedAfterBadPadding && unpadded.is_none() {
-        [0; 16]
+        vec![0; length]
     } else {
-        *work.hash(&[&rnd1, &text[2..18]].concat()).first_chunk().unwrap()
+        keys::cut(&work.hash(&[&rnd1, &text[2..2 + length]].concat()), length, fault)
     };
     let mode = held_mode(card, u16::from_be_bytes([text[0], text[1]]), &mut work);
     let refused = refusal(card, data.len(), unpadded.map(|length| &text[..length]), &keys_hash, mode);
     let (key, plain, why) = match (refused, mode) {
         (None, Some(mode)) => (keys_hash, reply(card, mode, fault), accepted(card, mode)),
-        (why, _) => (card.given.shill_key, fresh[..16 * card.reply_size].to_vec(), why.unwrap_or_default()),
+        (why, _) => (card.given.shill_key.clone(), fresh[..16 * card.reply_size].to_vec(), why.unwrap_or_default()),
     };
     let keys = work.expand(&key);
     let answer = aes::cbc_encipher([0; 16], &plain, |block| work.encipher(&key, &keys, block));
@@ -330,12 +357,12 @@ pub fn broken(rules: &[(bool, &'static str)], several: &'static str) -> Option<&
 }
 
 /// Accepted exactly when all of these hold.
-fn refusal(card: &Card, lc: usize, text: Option<&[u8]>, keys_hash: &Block, mode: Option<Mode>) -> Option<&'static str> {
+fn refusal(card: &Card, lc: usize, text: Option<&[u8]>, keys_hash: &[u8], mode: Option<Mode>) -> Option<&'static str> {
     let rules = [
         (card.session.is_some(), "final refused: no session alone"),
         (lc % 16 == 0, "final refused: Lc alone"),
         (text.is_some(), "final refused: padding alone"),
-        (text.is_none_or(|t| t.len() >= 34), "final refused: text under 34 alone"),
+        (text.is_none_or(|t| t.len() >= keys::least_text(card.given.key_length)), "final refused: text too short alone"),
         (text.is_none_or(|t| t.ends_with(keys_hash)), "final refused: KeysHash alone"),
         (mode.is_some(), "final refused: mode alone"),
     ];

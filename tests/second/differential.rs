@@ -8,7 +8,7 @@ use crate::fault::{Fault, TRAPS};
 use crate::generate::{self, Case};
 use crate::line::Line;
 use crate::meddle::{CHANGES, Meddled};
-use crate::outcomes::Outcomes;
+use crate::outcomes::{Outcomes, for_length};
 use crate::published;
 use crate::random::Random;
 use crate::shrink::shrink;
@@ -62,7 +62,7 @@ impl<S: Side> Other<'_, S> {
         for line in &case.lines {
             let (wanted, got) = (see(&mut second, line, pattern), see(&mut other, line, pattern));
             run.tally.count(wanted == got);
-            run.outcomes.count_reply(&wanted.reply, second.why);
+            run.outcomes.count_reply(line, &wanted.reply, second.why);
             if wanted != got {
                 return None;
             }
@@ -100,9 +100,12 @@ fn broken_promise(case: &Case, last: &Seen, outcomes: &mut Outcomes) -> bool {
         Reply::Accept { number: 0, part, .. } => last.lent().get(part.clone()),
         _ => None,
     };
+    let lengths: Vec<usize> = case.lines.iter().filter_map(Line::key_length).collect();
+    let kind = for_length("session", lengths.first().copied());
     match &case.promised {
-        Some(record) if returned == Some(record) => outcomes.count("session".to_string(), "ended as promised"),
+        Some(record) if returned == Some(record) => outcomes.count(kind, "ended as promised"),
         Some(_) => return true,
+        None if case.session && lengths.iter().any(|l| *l != lengths[0]) => outcomes.count("session".to_string(), "two key lengths"),
         None if case.session => outcomes.count("session".to_string(), "without promise"),
         None => {}
     }
@@ -137,7 +140,7 @@ fn shown(name: &str, run: &Run) -> bool {
     again.failed == 0 && (1..=FEW).contains(&again.passed) && transcript.contains("\n# with the fault: ")
 }
 
-/// Each of document 01's traps, T-01's and T-02's, and a change of each thing compared, has to be found.
+/// Each of document 01's traps, T-01's, T-02's and T-04's, and a change of each thing compared, has to be found.
 pub fn self_test(calls: usize, seed: u64) -> Tally {
     let mut traps = Tally::default();
     for (fault, trap) in TRAPS {

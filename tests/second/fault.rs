@@ -1,4 +1,4 @@
-//! Document 01's traps for the implementer, and mistakes that T-01 and T-02 invite, as switches. Only the self-test turns one on, to see
+//! Document 01's traps for the implementer, and mistakes that T-01, T-02 and T-04 invite, as switches. Only the self-test turns one on, to see
 //! that the comparison finds it.
 
 #[derive(Clone, Copy, PartialEq)]
@@ -23,10 +23,16 @@ pub enum Fault {
     BytesBehindZerosTaken,
     ZerosNotWanted,
     LeadingZerosRefused,
+    NoBitFlipped,
+    LowestBitFlipped,
+    KeysHashOf16,
+    PadsFrom50,
+    KeysBeforeCount,
+    ShillKeyNotLookedAt,
 }
 
-/// Each fault in words: document 01's traps, then T-01's, then T-02's.
-pub const TRAPS: [(Fault, &str); 19] = [
+/// Each fault in words: document 01's traps, then T-01's, T-02's and T-04's.
+pub const TRAPS: [(Fault, &str); 25] = [
     (Fault::FullTextGetsNo80, "leaving out 0x80 when a text fills its blocks"),
     (Fault::WalkEndsAtMatch, "ending the list walk at the first match"),
     (Fault::SlotOrderWins, "taking card slot order over list order"),
@@ -46,4 +52,10 @@ pub const TRAPS: [(Fault, &str); 19] = [
     (Fault::BytesBehindZerosTaken, "taking bytes behind 00 00"),
     (Fault::ZerosNotWanted, "taking 30 80 without 00 00"),
     (Fault::LeadingZerosRefused, "refusing leading zero bytes of a length"),
+    (Fault::NoBitFlipped, "enciphering DivData unflipped for the second block of the diversified key"),
+    (Fault::LowestBitFlipped, "flipping the lowest bit of DivData's first byte for that block"),
+    (Fault::KeysHashOf16, "cutting KeysHash to 16 bytes for L = 32"),
+    (Fault::PadsFrom50, "taking the pad bytes from 50 on for L = 24"),
+    (Fault::KeysBeforeCount, "giving 22 before 1"),
+    (Fault::ShillKeyNotLookedAt, "not looking at the shill key for 22"),
 ];

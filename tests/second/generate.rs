@@ -7,6 +7,7 @@ mod session;
 
 use crate::card::{self, Card};
 use crate::fault::Fault;
+use crate::keys::LENGTHS;
 use crate::line::Line;
 use crate::random::Random;
 
@@ -73,6 +74,24 @@ fn distinct_ids(random: &mut Random, count: usize) -> Vec<u16> {
         }
     }
     ids
+}
+
+/// A key length: mostly one of the three.
+fn key_length(random: &mut Random) -> usize {
+    let other = random.pick(&[0, 1, 8, 15, 17, 20, 23, 25, 31, 33, 40, 48, 64, 255, 256, 272, (1 << 32) + 16, usize::MAX]);
+    if random.percent(8) { other } else { random.pick(&LENGTHS) }
+}
+
+/// A key, RND or KeysHash, mostly of L bytes.
+fn value(random: &mut Random, key_length: usize) -> Vec<u8> {
+    if random.percent(4) { off_value(random, key_length) } else { random.bytes(key_length.min(255)) }
+}
+
+/// A value of any length, sometimes L; one over 32 says that it has more than it can hold.
+fn off_value(random: &mut Random, key_length: usize) -> Vec<u8> {
+    let about = [key_length.saturating_sub(1), key_length.saturating_add(1)].map(|length| length.min(255));
+    let length = random.edge(&[0, 16, 24, 32, 33, 40, 255, about[0], about[1]], 0, 40);
+    random.bytes(length)
 }
 
 /// A buffer size: mostly enough, often one too short, sometimes anything.

@@ -12,6 +12,9 @@ mod card;
 mod fault;
 #[path = "joint/inputs.rs"]
 mod inputs;
+// The joint test has keys of 16 bytes.
+#[allow(dead_code)]
+mod keys;
 mod padding;
 #[path = "joint/page.rs"]
 mod page;

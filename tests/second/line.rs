@@ -11,7 +11,7 @@ pub enum Line {
     /// A command to the card as the call before left it.
     Call { command: Vec<u8>, fresh: Vec<u8>, out: usize },
     List { ids: Vec<u16>, out: usize },
-    Open { ids: Vec<u16>, blocks: Vec<u8> },
+    Open { key_length: usize, ids: Vec<u16>, blocks: Vec<u8> },
     Seal { of: Sealing, payload: Vec<u8>, out: usize },
     Accept { of: Accepting, response: Vec<u8>, work: Vec<u8> },
 }
@@ -34,18 +34,29 @@ impl Line {
     pub fn fields(&mut self) -> Vec<Field<'_>> {
         use Field::*;
         match self {
-            Line::Load(Given { sets, modes, area, div_data, shill_key, shill_handle }) => {
-                vec![Sets(sets), Modes(modes), Bytes(area), Block(div_data), Block(shill_key), Handle(shill_handle)]
+            Line::Load(Given { key_length, sets, modes, area, div_data, shill_key, shill_handle }) => {
+                let lists = [Sets(sets), Modes(modes), Bytes(area)];
+                let rest = [Size(key_length), Block(div_data), Bytes(shill_key), Handle(shill_handle)];
+                lists.into_iter().chain(rest).collect()
             }
             Line::Call { command, fresh, out } => vec![Command(command), Fresh(fresh), Size(out)],
             Line::List { ids, out } => vec![Ids(ids), Size(out)],
-            Line::Open { ids, blocks } => vec![Ids(ids), Bytes(blocks)],
-            Line::Seal { of: Sealing { fa_key, div_data, rnd1, rnd2, mode }, payload, out } => {
-                vec![Bytes(payload), Block(fa_key), Block(div_data), Block(rnd1), Block(rnd2), Id(mode), Size(out)]
+            Line::Open { key_length, ids, blocks } => vec![Ids(ids), Bytes(blocks), Size(key_length)],
+            Line::Seal { of: Sealing { key_length, fa_key, div_data, rnd1, rnd2, mode }, payload, out } => {
+                vec![Bytes(payload), Size(key_length), Bytes(fa_key), Block(div_data), Bytes(rnd1), Bytes(rnd2), Id(mode), Size(out)]
             }
-            Line::Accept { of: Accepting { keys_hash, div_data, record_length }, response, work } => {
-                vec![Bytes(response), Block(keys_hash), Block(div_data), Size(record_length), Bytes(work)]
+            Line::Accept { of: Accepting { key_length, keys_hash, div_data, record_length }, response, work } => {
+                vec![Bytes(response), Size(key_length), Bytes(keys_hash), Block(div_data), Size(record_length), Bytes(work)]
             }
+        }
+    }
+
+    /// L, where a line has it.
+    pub fn key_length(&self) -> Option<usize> {
+        match self {
+            Line::Load(Given { key_length, .. }) | Line::Open { key_length, .. } => Some(*key_length),
+            Line::Seal { of: Sealing { key_length, .. }, .. } | Line::Accept { of: Accepting { key_length, .. }, .. } => Some(*key_length),
+            Line::Call { .. } | Line::List { .. } => None,
         }
     }
 

@@ -1,4 +1,4 @@
-//! A second implementation of document 01 with T-01 and T-02, and the proved library compared with it. Runs from the top of the repository.
+//! A second implementation of document 01 with T-01 to T-04, and the proved library compared with it. Runs from the top of the repository.
 //! Arguments: the number of random calls and the seed, both with a default.
 
 mod aes;
@@ -7,6 +7,7 @@ mod compare;
 mod differential;
 mod fault;
 mod generate;
+mod keys;
 mod line;
 mod meddle;
 mod nist;

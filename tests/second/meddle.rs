@@ -53,7 +53,7 @@ macro_rules! change {
     };
 }
 
-pub const CHANGES: [(&str, Change); 46] = [
+pub const CHANGES: [(&str, Change); 54] = [
     ("the first byte written", |_, lent| lent.iter_mut().take(1).for_each(Meddle::meddle)),
     ("the last byte lent", |_, lent| lent.iter_mut().rev().take(1).for_each(Meddle::meddle)),
     change!(Load { number, .. } => number),
@@ -62,6 +62,7 @@ pub const CHANGES: [(&str, Change); 46] = [
     change!(Load { card, .. } | Call { card, .. } => card.0.sets[7].id),
     change!(Load { card, .. } | Call { card, .. } => card.0.sets[7].handle),
     change!(Load { card, .. } | Call { card, .. } => card.0.sets[7].fa_key[15]),
+    change!(Load { card, .. } | Call { card, .. } => card.0.sets[7].fa_key[31]),
     change!(Load { card, .. } | Call { card, .. } => card.0.modes[15].held),
     change!(Load { card, .. } | Call { card, .. } => card.0.modes[15].id),
     change!(Load { card, .. } | Call { card, .. } => card.0.modes[15].start),
@@ -69,11 +70,14 @@ pub const CHANGES: [(&str, Change); 46] = [
     change!(Load { card, .. } | Call { card, .. } => card.0.area[1023]),
     change!(Load { card, .. } | Call { card, .. } => card.0.div_data[15]),
     change!(Load { card, .. } | Call { card, .. } => card.0.shill_key[15]),
+    change!(Load { card, .. } | Call { card, .. } => card.0.shill_key[31]),
     change!(Load { card, .. } | Call { card, .. } => card.0.shill_handle),
+    change!(Load { card, .. } | Call { card, .. } => card.0.key_length),
     change!(Load { card, .. } | Call { card, .. } => card.0.reply_size),
     change!(Load { card, .. } | Call { card, .. } => card.0.session.opened),
     change!(Load { card, .. } | Call { card, .. } => card.0.session.id),
     change!(Load { card, .. } | Call { card, .. } => card.0.session.rnd1[15]),
+    change!(Load { card, .. } | Call { card, .. } => card.0.session.rnd1[31]),
     change!(Call { card, .. } => card.0.session.rnd1[0]),
     change!(Call { card, .. } => card.0.area[0]),
     change!(Call { number, .. } => number),
@@ -92,10 +96,14 @@ pub const CHANGES: [(&str, Change); 46] = [
     change!(Open { place, .. } => place),
     change!(Open { id, .. } => id),
     change!(Open { div_data, .. } => div_data[15]),
-    change!(Open { rnd1, .. } => rnd1[15]),
+    change!(Open { rnd1, .. } => rnd1.length),
+    change!(Open { rnd1, .. } => rnd1.bytes[15]),
+    change!(Open { rnd1, .. } => rnd1.bytes[31]),
     change!(Seal { number, .. } => number),
     change!(Seal { length, .. } => length),
-    change!(Seal { keys_hash, .. } => keys_hash[15]),
+    change!(Seal { keys_hash, .. } => keys_hash.length),
+    change!(Seal { keys_hash, .. } => keys_hash.bytes[15]),
+    change!(Seal { keys_hash, .. } => keys_hash.bytes[31]),
     change!(Accept { number, .. } => number),
     change!(Accept { length, .. } => length),
     change!(Accept { part, .. } => part.start),

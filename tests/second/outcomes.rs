@@ -2,12 +2,28 @@
 
 use std::collections::{BTreeMap, BTreeSet};
 
+use crate::keys::LENGTHS;
+use crate::line::Line;
 use crate::side::Reply;
 
 /// The outcomes that have to come up: for each kind of call and number or status, the rules that decide.
-const REQUIRED: [(&str, &[&str]); 41] = [
+const REQUIRED: [(&str, &[&str]); 9] = [
+    ("load 21", UNKNOWN_LENGTH),
+    ("open 21", UNKNOWN_LENGTH),
+    ("seal 21", UNKNOWN_LENGTH),
+    ("accept 21", UNKNOWN_LENGTH),
+    ("list 0", &["listed"]),
+    ("list 11", &["no KeySetID", "over 16 KeySetIDs"]),
+    ("list 12", &["repeated KeySetID"]),
+    ("list 13", &["output too short"]),
+    ("session", &["without promise", "two key lengths"]),
+];
+
+/// Those that have to come up for each L.
+const REQUIRED_FOR_EACH: [(&str, &[&str]); 41] = [
     ("load 0", LOADED),
     ("load 1", &["no key set", "over 8 key sets"]),
+    ("load 22", &["a FAKey not of L bytes", "a FAKey over 32 bytes", "shill key not of L bytes", "shill key over 32 bytes"]),
     ("load 2", &["repeated KeySetID"]),
     ("load 3", &["a set with the shill handle"]),
     ("load 4", &["no mode", "over 16 modes"]),
@@ -31,23 +47,24 @@ const REQUIRED: [(&str, &[&str]); 41] = [
     ("call 9000, 64 bytes", FILLED),
     ("call 9000, 80 bytes", FILLED),
     ("call 9000, 96 bytes", FILLED),
-    ("list 0", &["listed"]),
-    ("list 11", &["no KeySetID", "over 16 KeySetIDs"]),
-    ("list 12", &["repeated KeySetID"]),
-    ("list 13", &["output too short"]),
     ("open 0", &["opened"]),
     ("open 14", &["no KeySetID", "over 16 KeySetIDs", "a total that is not 256k"]),
     ("open 15", &["no block opens"]),
     ("seal 0", &["sealed"]),
-    ("seal 16", &["payload over 205"]),
+    ("seal 22", &["FAKey not of L bytes", "RND1 not of L bytes", "RND2 not of L bytes"]),
+    ("seal 22", &["FAKey over 32 bytes", "RND1 over 32 bytes", "RND2 over 32 bytes"]),
+    ("seal 16", &["payload too long"]),
     ("seal 17", &["output below Lc + 6"]),
     ("accept 0", ACCEPTED),
+    ("accept 22", &["KeysHash not of L bytes", "KeysHash over 32 bytes"]),
     ("accept 18", &["length not 32, 48, 64, 80 or 96"]),
     ("accept 19", &["work buffer shorter than the response"]),
     ("accept 20", &["padding", "body empty alone", "body over 64 alone", "DivData alone"]),
     ("accept 20", &["record length 0 alone", "body shorter than the record alone", "several"]),
-    ("session", &["ended as promised", "without promise"]),
+    ("session", &["ended as promised"]),
 ];
+
+const UNKNOWN_LENGTH: &[&str] = &["L none of the three"];
 
 /// Of a load: where the largest B stands.
 const LOADED: &[&str] = &[
@@ -72,7 +89,7 @@ const FINAL: &[&str] = &[
     "final refused: no session alone",
     "final refused: Lc alone",
     "final refused: padding alone",
-    "final refused: text under 34 alone",
+    "final refused: text too short alone",
     "final refused: KeysHash alone",
     "final refused: mode alone",
     "final refused: several",
@@ -96,8 +113,9 @@ impl Outcomes {
         *self.counts.entry((kind, why)).or_default() += 1;
     }
 
-    pub fn count_reply(&mut self, reply: &Reply, why: &'static str) {
-        self.count(kind(reply), why);
+    pub fn count_reply(&mut self, line: &Line, reply: &Reply, why: &'static str) {
+        let length = line.key_length().or(reply.card().map(|card| card.0.key_length));
+        self.count(for_length(&kind(reply), length), why);
         if let (Reply::Accept { length, .. }, ALONE) = (reply, why) {
             self.bodies.insert(*length);
         }
@@ -115,11 +133,20 @@ impl Outcomes {
 
     /// The required outcomes that never came up.
     pub fn missing(&self) -> Vec<String> {
-        let required = REQUIRED.iter().flat_map(|(kind, rules)| rules.iter().map(|why| (kind.to_string(), *why)));
+        let any = REQUIRED.iter().map(|(kind, rules)| (kind.to_string(), rules));
+        let of_length = |l| REQUIRED_FOR_EACH.iter().map(move |(kind, rules)| (for_length(kind, Some(l)), rules));
+        let required = any.chain(LENGTHS.into_iter().flat_map(of_length));
+        let required = required.flat_map(|(kind, rules)| rules.iter().map(move |why| (kind.clone(), *why)));
         let missing = required.filter(|outcome| !self.counts.contains_key(outcome)).map(|(kind, why)| format!("{kind}: {why}"));
         let lengths = (1..=64).filter(|length| !self.bodies.contains(length)).map(|length| format!("accept 0: a body of {length}"));
         missing.chain(lengths).collect()
     }
+}
+
+/// The kind, with L where it is one of the three.
+pub fn for_length(kind: &str, key_length: Option<usize>) -> String {
+    let known = key_length.filter(|l| LENGTHS.contains(l));
+    known.map_or(kind.to_string(), |l| format!("{kind}, L {l}"))
 }
 
 /// The kind of call with its number or status, and the answer's length where there is one.

@@ -27,8 +27,8 @@ impl Random {
         self.below(100) < share
     }
 
-    pub fn pick<T: Copy>(&mut self, of: &[T]) -> T {
-        of[self.below(of.len())]
+    pub fn pick<T: Clone>(&mut self, of: &[T]) -> T {
+        of[self.below(of.len())].clone()
     }
 
     /// One of the edges, or any number from `low` to `high`.

@@ -1,8 +1,9 @@
-//! The reader of document 01, with T-01: Accept gets the record's length.
+//! The reader of document 01, with T-01: Accept gets the record's length; and T-04: Open, Seal and Accept get the key length L.
 
 use crate::aes::{self, Block};
 use crate::card::{Decline, broken, decline_if, has_repeated};
 use crate::fault::Fault;
+use crate::keys;
 use crate::padding;
 use crate::sha256;
 
@@ -36,77 +37,88 @@ pub struct Opened {
     pub place: usize,
     pub id: u16,
     pub div_data: Block,
-    pub rnd1: Block,
+    pub rnd1: Vec<u8>,
 }
 
-/// 00 02, 203 nonzero bytes, 00, and 50 bytes whose KeySetID is that entry's and whose RND1 copies agree.
-fn opens(place: usize, id: u16, block: &[u8; 256]) -> Option<Opened> {
-    let (pad, last) = (&block[2..205], &block[206..]);
-    let (rnd1, copy) = (&last[18..34], &last[34..]);
-    let framed = block[..2] == [0, 2] && !pad.contains(&0) && block[205] == 0;
+/// 00 02, the nonzero pad bytes, 00, and as many bytes as STR1 has, whose KeySetID is that entry's and whose RND1 copies agree.
+fn opens(length: usize, place: usize, id: u16, block: &[u8; 256]) -> Option<Opened> {
+    let (pad, rest) = block[2..].split_at(keys::pads(length));
+    let (zero, last) = rest.split_at(1);
+    let (rnd1, copy) = last[18..].split_at(length);
+    let framed = block[..2] == [0, 2] && !pad.contains(&0) && zero == [0];
     if !framed || last[..2] != id.to_be_bytes() || rnd1 != copy {
         return None;
     }
-    Some(Opened { place, id, div_data: last[2..18].try_into().unwrap(), rnd1: rnd1.try_into().unwrap() })
+    Some(Opened { place, id, div_data: last[2..18].try_into().unwrap(), rnd1: rnd1.to_vec() })
 }
 
 /// Every block is examined; the first to open wins.
-pub fn open(ids: &[u16], blocks: &[u8]) -> Result<Opened, Decline> {
+pub fn open(length: usize, ids: &[u16], blocks: &[u8]) -> Result<Opened, Decline> {
+    keys::known(length)?;
     count_fault(ids, 14)?;
     decline_if(blocks.len() != 256 * ids.len(), 14, "a total that is not 256k")?;
-    let examined = ids.iter().zip(blocks.as_chunks().0).enumerate().map(|(place, (id, block))| opens(place, *id, block));
-    let examined: Vec<_> = examined.collect();
+    let pairs = ids.iter().zip(blocks.as_chunks().0).enumerate();
+    let examined: Vec<_> = pairs.map(|(place, (id, block))| opens(length, place, *id, block)).collect();
     examined.into_iter().flatten().next().ok_or(Decline { number: 15, why: "no block opens" })
 }
 
 /// What Seal takes beside the payload.
 #[derive(Clone, PartialEq)]
 pub struct Sealing {
-    pub fa_key: Block,
+    pub key_length: usize,
+    pub fa_key: Vec<u8>,
     pub div_data: Block,
-    pub rnd1: Block,
-    pub rnd2: Block,
+    pub rnd1: Vec<u8>,
+    pub rnd2: Vec<u8>,
     pub mode: u16,
 }
 
-pub fn keys_hash(rnd1: &Block, rnd2: &Block) -> Block {
-    *sha256::hash(&[*rnd1, *rnd2].concat()).first_chunk().unwrap()
+pub fn keys_hash(of: &Sealing, fault: Fault) -> Vec<u8> {
+    keys::cut(&sha256::hash(&[&of.rnd1[..], &of.rnd2].concat()), of.key_length, fault)
 }
 
 /// OpModeID, RND2, payload, KeysHash.
-pub fn str2(of: &Sealing, payload: &[u8]) -> Vec<u8> {
-    [&of.mode.to_be_bytes()[..], &of.rnd2, payload, &keys_hash(&of.rnd1, &of.rnd2)].concat()
+pub fn str2(of: &Sealing, payload: &[u8], fault: Fault) -> Vec<u8> {
+    [&of.mode.to_be_bytes()[..], &of.rnd2, payload, &keys_hash(of, fault)].concat()
 }
 
-pub fn enciphered(key: &Block, text: &[u8]) -> Vec<u8> {
+pub fn enciphered(key: &[u8], text: &[u8]) -> Vec<u8> {
     let keys = aes::expand(key);
     aes::cbc_encipher([0; 16], text, |block| aes::encipher(&keys, block))
 }
 
 /// A final command with this text, whole blocks, under the diversified key.
-pub fn final_data(fa_key: &Block, div_data: &Block, text: &[u8]) -> Vec<u8> {
-    enciphered(&aes::encipher(&aes::expand(fa_key), div_data), text)
+pub fn final_data(of: &Sealing, text: &[u8], fault: Fault) -> Vec<u8> {
+    let keys = aes::expand(&of.fa_key);
+    enciphered(&keys::diversified(of.key_length, &of.div_data, fault, |block| aes::encipher(&keys, block)), text)
 }
 
-pub fn seal(of: &Sealing, payload: &[u8], out: &mut [u8], fault: Fault) -> Result<(usize, Block), Decline> {
-    decline_if(payload.len() > 205, 16, "payload over 205")?;
-    let text = padding::padded(&str2(of, payload), fault);
+pub fn seal(of: &Sealing, payload: &[u8], out: &mut [u8], fault: Fault) -> Result<(usize, Vec<u8>), Decline> {
+    keys::known(of.key_length)?;
+    keys::fits(&of.fa_key, of.key_length, "FAKey not of L bytes", "FAKey over 32 bytes")?;
+    keys::fits(&of.rnd1, of.key_length, "RND1 not of L bytes", "RND1 over 32 bytes")?;
+    keys::fits(&of.rnd2, of.key_length, "RND2 not of L bytes", "RND2 over 32 bytes")?;
+    decline_if(payload.len() > keys::most_payload(of.key_length), 16, "payload too long")?;
+    let text = padding::padded(&str2(of, payload, fault), fault);
     decline_if(out.len() < text.len() + 6, 17, "output below Lc + 6")?;
-    let command = framed(0x86, &final_data(&of.fa_key, &of.div_data, &text));
+    let command = framed(0x86, &final_data(of, &text, fault));
     out[..command.len()].copy_from_slice(&command);
-    Ok((command.len(), keys_hash(&of.rnd1, &of.rnd2)))
+    Ok((command.len(), keys_hash(of, fault)))
 }
 
 /// What Accept takes beside the response.
 #[derive(Clone, PartialEq)]
 pub struct Accepting {
-    pub keys_hash: Block,
+    pub key_length: usize,
+    pub keys_hash: Vec<u8>,
     pub div_data: Block,
     pub record_length: usize,
 }
 
 /// Deciphers into the work buffer. Gives the length of the record, the buffer's first bytes; and for the statistics what stands behind it.
 pub fn accept(of: &Accepting, response: &[u8], work: &mut [u8], fault: Fault) -> Result<(usize, &'static str), Decline> {
+    keys::known(of.key_length)?;
+    keys::fits(&of.keys_hash, of.key_length, "KeysHash not of L bytes", "KeysHash over 32 bytes")?;
     decline_if(![32, 48, 64, 80, 96].contains(&response.len()), 18, "length not 32, 48, 64, 80 or 96")?;
     decline_if(work.len() < response.len(), 19, "work buffer shorter than the response")?;
     let keys = aes::expand(&of.keys_hash);

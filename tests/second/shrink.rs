@@ -206,7 +206,7 @@ impl Field<'_> {
             (Field::Ids(ids), _) => ids[item] = item as u16,
             (Field::Sets(sets), 0) => sets[item].id = item as u16,
             (Field::Sets(sets), 1) => sets[item].handle = item as u8 + 1,
-            (Field::Sets(sets), _) => sets[item].fa_key = [0; 16],
+            (Field::Sets(sets), _) => sets[item].fa_key.fill(0),
             (Field::Modes(modes), 0) => modes[item].id = item as u16,
             (Field::Modes(modes), 1) => modes[item].start = 0,
             (Field::Modes(modes), _) => modes[item].len = 1,

@@ -3,10 +3,10 @@
 use std::ops::Range;
 
 use crate::aes::Block;
-use crate::card::{self, Card, Decline, Given, KeySet, Mode, Session};
+use crate::card::{self, Card, Decline, Given, Mode, Session};
 use crate::fault::Fault;
 use crate::line::Line;
-use crate::plaid;
+use crate::plaid::{self, Value};
 use crate::reader::{self, Accepting, Sealing};
 use crate::work::Work;
 
@@ -20,8 +20,8 @@ pub enum Reply {
     Load { number: u8, card: Image, lists_kept: bool },
     Call { number: u8, status: u16, work: Work, length: usize, handle: u8, card: Image },
     List { number: u8, length: usize },
-    Open { number: u8, place: usize, id: u16, div_data: Block, rnd1: Block },
-    Seal { number: u8, length: usize, keys_hash: Block },
+    Open { number: u8, place: usize, id: u16, div_data: Block, rnd1: Value },
+    Seal { number: u8, length: usize, keys_hash: Value },
     Accept { number: u8, length: usize, part: Range<usize> },
     /// A command without a loaded card before it.
     NoCard,
@@ -46,7 +46,7 @@ impl PartialEq for Image {
         let (a, b) = (&self.0, &other.0);
         let set = |s: &plaid::KeySetSlot| (s.held, s.id, s.handle, s.fa_key);
         let mode = |m: &plaid::ModeSlot| (m.held, m.id, m.start, m.len);
-        let rest = |c: &plaid::Card| (c.div_data, c.shill_key, c.shill_handle, c.reply_size);
+        let rest = |c: &plaid::Card| (c.div_data, c.shill_key, c.shill_handle, c.key_length, c.reply_size);
         let session = |s: &plaid::Session| (s.opened, s.id, s.rnd1);
         a.sets.each_ref().map(set) == b.sets.each_ref().map(set)
             && a.modes.each_ref().map(mode) == b.modes.each_ref().map(mode)
@@ -56,33 +56,36 @@ impl PartialEq for Image {
     }
 }
 
-const NO_SESSION: plaid::Session = plaid::Session { opened: false, id: 0, rnd1: [0; 16] };
+const NO_SESSION: plaid::Session = plaid::Session { opened: false, id: 0, rnd1: [0; 32] };
 
 /// No card: what a refused load leaves.
 const BLANK: plaid::Card = plaid::Card {
-    sets: [plaid::KeySetSlot { held: false, id: 0, handle: 0, fa_key: [0; 16] }; 8],
+    sets: [plaid::KeySetSlot { held: false, id: 0, handle: 0, fa_key: [0; 32] }; 8],
     modes: [plaid::ModeSlot { held: false, id: 0, start: 0, len: 0 }; 16],
     area: [0; 1024],
     div_data: [0; 16],
-    shill_key: [0; 16],
+    shill_key: [0; 32],
     shill_handle: 0,
+    key_length: 0,
     reply_size: 0,
     session: NO_SESSION,
 };
 
+/// Zeros stand behind a key or RND1 that is shorter than its place in the card.
 fn image(card: &Card) -> Image {
-    let Given { sets, modes, area, div_data, shill_key, shill_handle } = &card.given;
+    let in_card = |value: &[u8]| Value::of(value).bytes;
+    let Given { key_length, sets, modes, area, div_data, shill_key, shill_handle } = &card.given;
     let mut to = BLANK;
     for (slot, set) in to.sets.iter_mut().zip(sets) {
-        *slot = plaid::KeySetSlot { held: true, id: set.id, handle: set.handle, fa_key: set.fa_key };
+        *slot = plaid::KeySetSlot { held: true, id: set.id, handle: set.handle, fa_key: in_card(&set.fa_key) };
     }
     for (slot, mode) in to.modes.iter_mut().zip(modes) {
         *slot = plaid::ModeSlot { held: true, id: mode.id, start: mode.start, len: mode.len };
     }
     to.area[..area.len()].copy_from_slice(area);
-    (to.div_data, to.shill_key, to.shill_handle) = (*div_data, *shill_key, *shill_handle);
-    to.reply_size = card.reply_size;
-    let open = |s: &Session| plaid::Session { opened: true, id: s.id, rnd1: s.rnd1 };
+    (to.div_data, to.shill_key, to.shill_handle) = (*div_data, in_card(shill_key), *shill_handle);
+    (to.key_length, to.reply_size) = (*key_length, card.reply_size);
+    let open = |s: &Session| plaid::Session { opened: true, id: s.id, rnd1: in_card(&s.rnd1) };
     to.session = card.session.as_ref().map_or(NO_SESSION, open);
     Image(to)
 }
@@ -141,16 +144,16 @@ impl Second {
         Reply::Call { number, status, work, length, handle, card: image(card) }
     }
 
-    fn open(&mut self, ids: &[u16], blocks: &[u8]) -> Reply {
-        let (number, opened) = self.decided(reader::open(ids, blocks), "opened");
+    fn open(&mut self, key_length: usize, ids: &[u16], blocks: &[u8]) -> Reply {
+        let (number, opened) = self.decided(reader::open(key_length, ids, blocks), "opened");
         let reader::Opened { place, id, div_data, rnd1 } = opened.unwrap_or_default();
-        Reply::Open { number, place, id, div_data, rnd1 }
+        Reply::Open { number, place, id, div_data, rnd1: Value::of(&rnd1) }
     }
 
     fn seal(&mut self, of: &Sealing, payload: &[u8], lent: &mut [u8]) -> Reply {
         let (number, sealed) = self.decided(reader::seal(of, payload, lent, self.fault), "sealed");
         let (length, keys_hash) = sealed.unwrap_or_default();
-        Reply::Seal { number, length, keys_hash }
+        Reply::Seal { number, length, keys_hash: Value::of(&keys_hash) }
     }
 
     fn accept(&mut self, of: &Accepting, response: &[u8], lent: &mut [u8]) -> Reply {
@@ -170,11 +173,18 @@ impl Side for Second {
                 let (number, length) = self.decided(reader::list(ids, lent), "listed");
                 Reply::List { number, length: length.unwrap_or(0) }
             }
-            Line::Open { ids, blocks } => self.open(ids, blocks),
+            Line::Open { key_length, ids, blocks } => self.open(*key_length, ids, blocks),
             Line::Seal { of, payload, .. } => self.seal(of, payload, lent),
             Line::Accept { of, response, .. } => self.accept(of, response, lent),
         }
     }
+}
+
+/// A value as the library gets it. What stands behind its length is no part of it, so that is not left zero.
+fn lent_value(value: &[u8]) -> Value {
+    let mut lent = Value::of(value);
+    lent.bytes.iter_mut().skip(value.len()).for_each(|byte| *byte = 0xa5);
+    lent
 }
 
 #[derive(Default)]
@@ -184,14 +194,16 @@ pub struct Library {
 
 impl Library {
     fn load(&mut self, given: &Given) -> Reply {
-        let Given { sets, modes, area, div_data, shill_key, shill_handle } = given;
-        let lent_sets: Vec<_> = sets.iter().map(|s| plaid::KeySet { id: s.id, handle: s.handle, fa_key: s.fa_key }).collect();
-        let lent_modes: Vec<_> = modes.iter().map(|m| plaid::Mode { id: m.id, start: m.start, len: m.len }).collect();
-        let plaid::Loaded { number, card } = plaid::run_load(&lent_sets, &lent_modes, area, *div_data, *shill_key, *shill_handle);
+        let Given { key_length, sets, modes, area, div_data, shill_key, shill_handle } = given;
+        let set = |s: &card::KeySet| plaid::KeySet { id: s.id, handle: s.handle, fa_key: lent_value(&s.fa_key) };
+        let mode = |m: &Mode| plaid::Mode { id: m.id, start: m.start, len: m.len };
+        let sets: Vec<_> = sets.iter().map(set).collect();
+        let modes: Vec<_> = modes.iter().map(mode).collect();
+        let before = (sets.clone(), modes.clone());
+        let given = plaid::given(*key_length, *div_data, lent_value(shill_key), *shill_handle);
+        let plaid::Loaded { number, card } = plaid::run_load(&sets, &modes, area, given);
         self.card = if number == 0 { Some(card) } else { None };
-        let sets_after = lent_sets.iter().map(|s| KeySet { id: s.id, handle: s.handle, fa_key: s.fa_key });
-        let modes_after = lent_modes.iter().map(|m| Mode { id: m.id, start: m.start, len: m.len });
-        let lists_kept = sets_after.eq(sets.iter().copied()) && modes_after.eq(modes.iter().copied());
+        let lists_kept = *std::hint::black_box(&(sets, modes)) == before;
         Reply::Load { number, card: Image(card), lists_kept }
     }
 
@@ -206,15 +218,17 @@ impl Library {
     }
 
     fn seal(of: &Sealing, payload: &[u8], lent: &mut [u8]) -> Reply {
-        let Sealing { fa_key, div_data, rnd1, rnd2, mode } = of.clone();
-        let sealing = plaid::Sealing { fa_key, div_data, rnd1, rnd2, mode };
+        let Sealing { key_length, div_data, mode, .. } = *of;
+        let [fa_key, rnd1, rnd2] = [&of.fa_key, &of.rnd1, &of.rnd2].map(|value| lent_value(value));
+        let sealing = plaid::Sealing { key_length, fa_key, div_data, rnd1, rnd2, mode };
         let plaid::Sealed { number, length, keys_hash } = plaid::run_seal(sealing, payload, lent);
         Reply::Seal { number, length, keys_hash }
     }
 
     fn accept(of: &Accepting, response: &[u8], lent: &mut [u8]) -> Reply {
-        let Accepting { keys_hash, div_data, record_length } = of.clone();
-        let accepted = plaid::run_accept(plaid::Accepting { keys_hash, div_data, record_length }, response, lent);
+        let Accepting { key_length, div_data, record_length, .. } = *of;
+        let accepting = plaid::Accepting { key_length, keys_hash: lent_value(&of.keys_hash), div_data, record_length };
+        let accepted = plaid::run_accept(accepting, response, lent);
         let plaid::Accepted { number, length } = accepted;
         Reply::Accept { number, length, part: plaid::run_record(lent, accepted) }
     }
@@ -229,8 +243,8 @@ impl Side for Library {
                 let plaid::Written { number, length } = plaid::run_list(ids, lent);
                 Reply::List { number, length }
             }
-            Line::Open { ids, blocks } => {
-                let plaid::Opened { number, place, id, div_data, rnd1 } = plaid::run_open(ids, blocks);
+            Line::Open { key_length, ids, blocks } => {
+                let plaid::Opened { number, place, id, div_data, rnd1 } = plaid::run_open(*key_length, ids, blocks);
                 Reply::Open { number, place, id, div_data, rnd1 }
             }
             Line::Seal { of, payload, .. } => Library::seal(of, payload, lent),

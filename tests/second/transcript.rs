@@ -43,22 +43,26 @@ fn words(kind: &str, fields: &[(&str, &dyn Display)]) -> String {
 /// The line without its result.
 pub fn question(line: &Line) -> String {
     match line {
-        Line::Load(Given { sets, modes, area, div_data, shill_key, shill_handle }) => {
+        Line::Load(Given { key_length, sets, modes, area, div_data, shill_key, shill_handle }) => {
             let sets = joined(sets, |s| format!("{}:{}:{}", s.id, s.handle, hex(&s.fa_key)));
             let modes = joined(modes, |m| format!("{}:{}:{}", m.id, m.start, m.len));
             let (area, div, key) = (hex(area), hex(div_data), hex(shill_key));
-            let given = format!("load sets={sets} modes={modes} area={area} div={div}");
+            let given = format!("load l={key_length} sets={sets} modes={modes} area={area} div={div}");
             words(&given, &[("shill_key", &key), ("shill_handle", shill_handle)])
         }
         Line::Call { command, fresh, out } => words("call", &[("command", &hex(command)), ("fresh", &hex(fresh)), ("out", out)]),
         Line::List { ids, out } => words("list", &[("ids", &joined(ids, u16::to_string)), ("out", out)]),
-        Line::Open { ids, blocks } => words("open", &[("ids", &joined(ids, u16::to_string)), ("blocks", &hex(blocks))]),
-        Line::Seal { of: Sealing { fa_key, div_data, rnd1, rnd2, mode }, payload, out } => {
-            let keys = words("seal", &[("fakey", &hex(fa_key)), ("div", &hex(div_data)), ("rnd1", &hex(rnd1)), ("rnd2", &hex(rnd2))]);
+        Line::Open { key_length, ids, blocks } => {
+            words("open", &[("l", key_length), ("ids", &joined(ids, u16::to_string)), ("blocks", &hex(blocks))])
+        }
+        Line::Seal { of: Sealing { key_length, fa_key, div_data, rnd1, rnd2, mode }, payload, out } => {
+            let keys = words("seal", &[("l", key_length), ("fakey", &hex(fa_key)), ("div", &hex(div_data))]);
+            let keys = words(&keys, &[("rnd1", &hex(rnd1)), ("rnd2", &hex(rnd2))]);
             words(&keys, &[("mode", mode), ("payload", &hex(payload)), ("out", out)])
         }
-        Line::Accept { of: Accepting { keys_hash, div_data, record_length }, response, work } => {
-            let of = words("accept", &[("keyshash", &hex(keys_hash)), ("div", &hex(div_data)), ("reclen", record_length)]);
+        Line::Accept { of: Accepting { key_length, keys_hash, div_data, record_length }, response, work } => {
+            let of = words("accept", &[("l", key_length), ("keyshash", &hex(keys_hash)), ("div", &hex(div_data))]);
+            let of = words(&of, &[("reclen", record_length)]);
             words(&of, &[("response", &hex(response)), ("work", &hex(work))])
         }
     }
@@ -74,15 +78,15 @@ pub fn result(seen: &Seen) -> String {
             let counts = words(&start, &[("decipherments", &work.decipherments), ("encipherments", &work.encipherments)]);
             let counts = words(&counts, &[("expansions", &work.expansions), ("hash_blocks", &work.hash_blocks)]);
             let rest = words(&counts, &[("length", length), ("handle", handle), ("sum", &work.sum)]);
-            words(&rest, &[("answer", &shown(*length)), ("session", &session(&card.0.session))]).trim_start().to_string()
+            words(&rest, &[("answer", &shown(*length)), ("session", &session(&card.0))]).trim_start().to_string()
         }
         Reply::List { number, length } => format!("number={number} length={length} command={}", shown(*length)),
         Reply::Open { number: 0, place, id, div_data, rnd1 } => {
-            format!("number=0 place={place} id={id} div={} rnd1={}", hex(div_data), hex(rnd1))
+            format!("number=0 place={place} id={id} div={} rnd1={}", hex(div_data), hex(rnd1.held()))
         }
         Reply::Open { number, .. } => format!("number={number}"),
         Reply::Seal { number, length, keys_hash } => {
-            let hash = if *number == 0 { hex(keys_hash) } else { "-".to_string() };
+            let hash = if *number == 0 { hex(keys_hash.held()) } else { "-".to_string() };
             format!("number={number} length={length} keyshash={hash} command={}", shown(*length))
         }
         Reply::Accept { number, part, .. } => {
@@ -93,8 +97,8 @@ pub fn result(seen: &Seen) -> String {
     }
 }
 
-fn session(session: &plaid::Session) -> String {
-    if session.opened { format!("{}:{}", session.id, hex(&session.rnd1)) } else { "-".to_string() }
+fn session(card: &plaid::Card) -> String {
+    card.open_session().map_or("-".to_string(), |(id, rnd1)| format!("{id}:{}", hex(rnd1)))
 }
 
 /// The values of a line that has exactly these words, in this order.
@@ -110,7 +114,7 @@ fn values<'a, const N: usize>(line: &'a str, names: [&str; N]) -> Option<[&'a st
 
 fn key_set(text: &str) -> Option<KeySet> {
     let [id, handle, key] = text.split(':').collect::<Vec<_>>().try_into().ok()?;
-    Some(KeySet { id: id.parse().ok()?, handle: handle.parse().ok()?, fa_key: block(key)? })
+    Some(KeySet { id: id.parse().ok()?, handle: handle.parse().ok()?, fa_key: bytes(key)? })
 }
 
 fn mode(text: &str) -> Option<Mode> {
@@ -123,17 +127,26 @@ fn ids(text: &str) -> Option<Vec<u16>> {
 }
 
 fn parse_load(line: &str) -> Option<Line> {
-    let [sets, modes, area, div, key, handle] = values(line, ["sets", "modes", "area", "div", "shill_key", "shill_handle"])?;
-    let (sets, modes) = (parted(sets, key_set)?, parted(modes, mode)?);
-    let (div_data, shill_key, shill_handle) = (block(div)?, block(key)?, handle.parse().ok()?);
-    Some(Line::Load(Given { sets, modes, area: bytes(area)?, div_data, shill_key, shill_handle }))
+    let [length, sets, modes, area, div, key, handle] = values(line, ["l", "sets", "modes", "area", "div", "shill_key", "shill_handle"])?;
+    let (key_length, sets, modes) = (length.parse().ok()?, parted(sets, key_set)?, parted(modes, mode)?);
+    let (div_data, shill_key, shill_handle) = (block(div)?, bytes(key)?, handle.parse().ok()?);
+    Some(Line::Load(Given { key_length, sets, modes, area: bytes(area)?, div_data, shill_key, shill_handle }))
 }
 
 fn parse_seal(line: &str) -> Option<Line> {
-    let [fa_key, div, rnd1, rnd2, mode, payload, out] = values(line, ["fakey", "div", "rnd1", "rnd2", "mode", "payload", "out"])?;
-    let [fa_key, div_data, rnd1, rnd2] = [block(fa_key)?, block(div)?, block(rnd1)?, block(rnd2)?];
-    let of = Sealing { fa_key, div_data, rnd1, rnd2, mode: mode.parse().ok()? };
+    let names = ["l", "fakey", "div", "rnd1", "rnd2", "mode", "payload", "out"];
+    let [length, fa_key, div, rnd1, rnd2, mode, payload, out] = values(line, names)?;
+    let (key_length, div_data) = (length.parse().ok()?, block(div)?);
+    let [fa_key, rnd1, rnd2] = [bytes(fa_key)?, bytes(rnd1)?, bytes(rnd2)?];
+    let of = Sealing { key_length, fa_key, div_data, rnd1, rnd2, mode: mode.parse().ok()? };
     Some(Line::Seal { of, payload: bytes(payload)?, out: out.parse().ok()? })
+}
+
+fn parse_accept(line: &str) -> Option<Line> {
+    let [length, hash, div, record, response, work] = values(line, ["l", "keyshash", "div", "reclen", "response", "work"])?;
+    let (key_length, keys_hash, div_data) = (length.parse().ok()?, bytes(hash)?, block(div)?);
+    let of = Accepting { key_length, keys_hash, div_data, record_length: record.parse().ok()? };
+    Some(Line::Accept { of, response: bytes(response)?, work: bytes(work)? })
 }
 
 /// A line without its result, `None` if it cannot be read.
@@ -149,15 +162,11 @@ pub fn parse(line: &str) -> Option<Line> {
             Some(Line::List { ids: ids(listed)?, out: out.parse().ok()? })
         }
         "open" => {
-            let [listed, blocks] = values(line, ["ids", "blocks"])?;
-            Some(Line::Open { ids: ids(listed)?, blocks: bytes(blocks)? })
+            let [length, listed, blocks] = values(line, ["l", "ids", "blocks"])?;
+            Some(Line::Open { key_length: length.parse().ok()?, ids: ids(listed)?, blocks: bytes(blocks)? })
         }
         "seal" => parse_seal(line),
-        "accept" => {
-            let [hash, div, length, response, work] = values(line, ["keyshash", "div", "reclen", "response", "work"])?;
-            let of = Accepting { keys_hash: block(hash)?, div_data: block(div)?, record_length: length.parse().ok()? };
-            Some(Line::Accept { of, response: bytes(response)?, work: bytes(work)? })
-        }
+        "accept" => parse_accept(line),
         _ => None,
     }
 }

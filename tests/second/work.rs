@@ -29,33 +29,34 @@ impl Work {
         matched
     }
 
-    pub fn decipher(&mut self, key: &Block, keys: &RoundKeys, input: &Block) -> Block {
+    pub fn decipher(&mut self, key: &[u8], keys: &[Block], input: &Block) -> Block {
         let output = aes::decipher(keys, input);
         self.decipherments += 1;
         self.add(2, &[key, input, &output]);
         output
     }
 
-    pub fn encipher(&mut self, key: &Block, keys: &RoundKeys, input: &Block) -> Block {
+    pub fn encipher(&mut self, key: &[u8], keys: &[Block], input: &Block) -> Block {
         let output = aes::encipher(keys, input);
         self.encipherments += 1;
         self.add(3, &[key, input, &output]);
         output
     }
 
-    pub fn expand(&mut self, key: &Block) -> RoundKeys {
+    pub fn expand(&mut self, key: &[u8]) -> RoundKeys {
         let keys = aes::expand(key);
         self.expansions += 1;
         self.add(4, &[key, keys.as_flattened()]);
         keys
     }
 
-    /// The hash of a message that fits one block.
+    /// The hash of a message; each of its blocks is a step.
     pub fn hash(&mut self, message: &[u8]) -> [u8; 32] {
-        let block = sha256::padded(message);
-        let state = sha256::hash_blocks(&block);
-        self.hash_blocks += 1;
-        self.add(5, &[&block, &state]);
-        state
+        let text = sha256::padded(message);
+        for end in (64..=text.len()).step_by(64) {
+            self.hash_blocks += 1;
+            self.add(5, &[&text[end - 64..end], &sha256::hash_blocks(&text[..end])]);
+        }
+        sha256::hash_blocks(&text)
     }
 }

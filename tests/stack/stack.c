@@ -3,7 +3,7 @@
  *
  *   stack FUNCTION=BYTES ..    what each function reserves by its machine code, its return address included (frames.awk)
  *
- * Each call is made on a stack of its own that was painted before. The deepest byte that is not as painted is the depth, counted from the
+ * Each call is made for each key length L, on a stack of its own that was painted before. The deepest byte that is not as painted is the depth, counted from the
  * caller's stack pointer before the arguments are laid. A figure holds where no call is deeper, where arguments and reserved bytes
  * are not deeper either, and where it is at most a quarter above the deepest call, or the next multiple of 16: it is no guess.
  *
@@ -25,7 +25,7 @@
 /* A result of more than 16 bytes goes where the first argument points (System V ABI, x86-64): no copy of it is on the caller's stack. */
 typedef void raw_load(void *, const plaid_key_set *, size_t, plaid_given, const uint8_t *, size_t);
 typedef void raw_command(void *, plaid_card, const uint8_t *, size_t, const uint8_t *, size_t, uint8_t *, size_t);
-typedef void raw_open(void *, plaid_ids, const uint8_t *, size_t);
+typedef void raw_open(void *, size_t, plaid_ids, const uint8_t *, size_t);
 typedef void raw_seal(void *, plaid_sealing, const uint8_t *, size_t, uint8_t *, size_t);
 
 /* volatile, or a compiler sees the other type and makes no call. */
@@ -35,7 +35,11 @@ static raw_command *volatile command_at = AS(raw_command, plaid_command);
 static raw_open *volatile open_at = AS(raw_open, plaid_open);
 static raw_seal *volatile seal_at = AS(raw_seal, plaid_seal);
 
+/* L of this turn. */
+static size_t key_length;
+
 /* What the calls take and hand back. None of it is on the painted stack. */
+static size_t open_length;
 static plaid_key_set sets[PLAID_CARD_KEY_SETS + 1];
 static plaid_given given;
 static uint8_t area[PLAID_CARD_AREA];
@@ -45,7 +49,7 @@ static size_t set_count, command_len;
 static plaid_ids ids;
 static uint8_t blocks[PLAID_LIST_IDS * PLAID_BLOCK];
 static plaid_sealing sealing;
-static uint8_t payload[PLAID_PAYLOAD + 1];
+static uint8_t payload[PLAID_PAYLOAD(16) + 1];
 static plaid_accepting accepting;
 static uint8_t response[PLAID_ANSWER_FINAL_MOST], work[PLAID_ANSWER_FINAL_MOST];
 
@@ -60,6 +64,15 @@ static plaid_part part;
 /* The mode whose record is followed by filler. */
 #define SHORT 14
 
+/* L bytes of one value; behind them others, which nobody looks at. */
+static plaid_value value_of(int byte)
+{
+    plaid_value v;
+    memset(v.bytes, byte, sizeof v.bytes);
+    v.length = (uint8_t)key_length;
+    return v;
+}
+
 /* A full load: eight key sets, sixteen modes with records of 64 bytes but for one of a single byte, so B = 6. */
 static void given_load(void)
 {
@@ -67,7 +80,7 @@ static void given_load(void)
     for (unsigned i = 0; i < LENGTH(sets); i++) {
         sets[i].id.value = (uint16_t)(0x0101 * (i + 1));
         sets[i].handle = (uint8_t)(i + 1);
-        memset(sets[i].fa_key, 0x30 + (int)i, PLAID_KEY);
+        sets[i].fa_key = value_of(0x30 + (int)i);
     }
     for (unsigned i = 0; i < LENGTH(given.modes); i++) {
         given.modes[i].id.value = (uint16_t)(0x0A00 + i);
@@ -75,9 +88,10 @@ static void given_load(void)
         given.modes[i].len = i == SHORT ? 1 : PLAID_CARD_RECORD;
     }
     set_count = PLAID_CARD_KEY_SETS;
+    given.key_length = key_length;
     given.mode_count = PLAID_CARD_MODES;
     memset(given.div_data, 0xD1, PLAID_DIV_DATA);
-    memset(given.shill_key, 0x5E, PLAID_KEY);
+    given.shill_key = value_of(0x5E);
     given.shill_handle = 0x77;
     memset(area, 0x41, sizeof area);
 }
@@ -87,6 +101,9 @@ static void given_bad_mode(void) { given_load(); given.modes[15].id = given.mode
 static void given_bad_record(void) { given_load(); given.modes[15].len = PLAID_CARD_RECORD + 1; }
 static void given_equal_sizes(void) { given_load(); given.modes[SHORT].len = PLAID_CARD_RECORD; }
 static void given_too_many(void) { given_load(); set_count = PLAID_CARD_KEY_SETS + 1; }
+static void given_no_length(void) { given_load(); given.key_length = 20; }
+static void given_short_key(void) { given_load(); sets[7].fa_key.length--; }
+static void given_short_shill_key(void) { given_load(); given.shill_key.length--; }
 
 /* The loaded card, and fresh bytes. */
 static void given_card(void)
@@ -128,14 +145,18 @@ static void given_no_frame(void) { given_list(true); command_len = 3; }
 
 static void given_sealing(size_t mode)
 {
-    memcpy(sealing.fa_key, sets[7].fa_key, PLAID_KEY);
+    sealing.key_length = key_length;
+    sealing.fa_key = sets[7].fa_key;
     memcpy(sealing.div_data, given.div_data, PLAID_DIV_DATA);
-    memcpy(sealing.rnd1, fresh, PLAID_RND);
-    memset(sealing.rnd2, 0x62, PLAID_RND);
+    sealing.rnd1 = value_of(fresh[0]);
+    sealing.rnd2 = value_of(0x62);
     sealing.mode = given.modes[mode].id;
 }
 
-static void given_seal(void) { given_sealing(15); }
+static void given_seal(void) { given_card(); given_sealing(15); }
+static void given_seal_no_length(void) { given_seal(); sealing.key_length = 20; }
+static void given_seal_short_key(void) { given_seal(); sealing.fa_key.length--; }
+static void given_seal_short_rnd2(void) { given_seal(); sealing.rnd2.length--; }
 
 /* A card in session, and the final command for a mode with a payload of so many bytes; what Accept is given. */
 static void given_final_of(size_t mode, size_t payload_len)
@@ -145,23 +166,24 @@ static void given_final_of(size_t mode, size_t payload_len)
     given_sealing(mode);
     sealed = plaid_seal(sealing, payload, payload_len, command, sizeof command);
     command_len = sealed.length;
-    memcpy(accepting.keys_hash, sealed.keys_hash, PLAID_KEYS_HASH);
+    accepting.key_length = key_length;
+    accepting.keys_hash = sealed.keys_hash;
     memcpy(accepting.div_data, given.div_data, PLAID_DIV_DATA);
     accepting.record_length = given.modes[mode].len;
 }
 
 static void given_final(size_t payload_len) { given_final_of(15, payload_len); }
 
-static void given_longest_final(void) { given_final(PLAID_PAYLOAD); }
+static void given_longest_final(void) { given_final(PLAID_PAYLOAD(key_length)); }
 static void given_shortest_final(void) { given_final(0); }
-static void given_filled_final(void) { given_final_of(SHORT, PLAID_PAYLOAD); }
-static void given_wrong_final(void) { given_final(PLAID_PAYLOAD); command[5] ^= 1; }
-static void given_bad_padding(void) { given_final(PLAID_PAYLOAD); command[244] ^= 1; }
+static void given_filled_final(void) { given_final_of(SHORT, PLAID_PAYLOAD(key_length)); }
+static void given_wrong_final(void) { given_final(PLAID_PAYLOAD(key_length)); command[5] ^= 1; }
+static void given_bad_padding(void) { given_final(PLAID_PAYLOAD(key_length)); command[244] ^= 1; }
 
 /* A final command with Lc data bytes of no meaning. */
 static void given_odd_final(size_t lc)
 {
-    given_final(PLAID_PAYLOAD);
+    given_final(PLAID_PAYLOAD(key_length));
     memset(command + 5, 0x99, sizeof command - 5);
     command[4] = (uint8_t)lc;
     command[5 + lc] = 0;
@@ -177,6 +199,7 @@ static void given_ids(void)
     for (unsigned i = 0; i < PLAID_LIST_IDS; i++)
         ids.ids[i].value = (uint16_t)(0x0700 + i);
     ids.count = PLAID_LIST_IDS;
+    open_length = key_length;
 }
 
 static void given_ids_twice(void) { given_ids(); ids.ids[15] = ids.ids[0]; }
@@ -188,18 +211,19 @@ static void given_blocks(void)
     memset(blocks, 0x99, sizeof blocks);
     for (size_t i = 0; i < PLAID_LIST_IDS; i++) {
         uint8_t *block = blocks + i * PLAID_BLOCK;
-        block[0] = block[2 + PLAID_FRESH_PADS] = 0;
+        block[0] = block[2 + PLAID_FRESH_PADS(key_length)] = 0;
         block[1] = 2;
     }
-    memcpy(blocks + sizeof blocks - 50, (uint8_t[]){0x07, 0x0F}, 2);
+    memcpy(blocks + sizeof blocks - PLAID_FRESH_ANY(key_length), (uint8_t[]){0x07, 0x0F}, 2);
 }
 
 static void given_no_block(void) { given_blocks(); blocks[sizeof blocks - 1] ^= 1; }
+static void given_open_no_length(void) { given_blocks(); open_length = 20; }
 
 /* The card's answer for a mode, 96 bytes: the longest. */
 static void given_response_of(size_t mode)
 {
-    given_final_of(mode, PLAID_PAYLOAD);
+    given_final_of(mode, PLAID_PAYLOAD(key_length));
     plaid_command(card, command, command_len, fresh, sizeof fresh, out, sizeof out);
     memcpy(response, out, sizeof response);
 }
@@ -209,6 +233,8 @@ static void given_filled_response(void) { given_response_of(SHORT); }
 static void given_wrong_response(void) { given_response(); response[95] ^= 1; }
 static void given_longer_record(void) { given_response(); accepting.record_length = PLAID_CARD_RECORD + 1; }
 static void given_empty_record(void) { given_response(); accepting.record_length = 0; }
+static void given_accept_no_length(void) { given_response(); accepting.key_length = 20; }
+static void given_accept_short_hash(void) { given_response(); accepting.keys_hash.length--; }
 
 static void given_record(void) { given_response(); accepted = plaid_accept(accepting, response, 96, work, 96); }
 static void given_no_record(void) { given_wrong_response(); accepted = plaid_accept(accepting, response, 96, work, 96); }
@@ -223,6 +249,10 @@ static bool answered(size_t length)
 {
     return outcome.answer.number == PLAID_DONE && outcome.answer.status == PLAID_ANSWER_OK && outcome.answer.length == length;
 }
+
+/* Seal's longest payload and its shortest command. No functions: the one that makes a call calls no other. */
+#define MOST PLAID_PAYLOAD(key_length)
+#define LEAST PLAID_FINAL_COMMAND_LEAST(key_length)
 
 /* The functions, with the bytes of their arguments on the stack: structs over 16 bytes, and integers past the sixth. */
 #define FUNCTIONS(f) \
@@ -242,6 +272,9 @@ static bool answered(size_t length)
 /* c(FUNCTION, the path's name, what is given, the call, whether it took that path) */
 #define CALLS \
     LOADS(load_accepted, given_load, loaded.number == PLAID_DONE && loaded.card.reply_size == 6) \
+    LOADS(load_refused_21, given_no_length, loaded.number == PLAID_DECLINE_KEY_LENGTH) \
+    LOADS(load_refused_22, given_short_key, loaded.number == PLAID_DECLINE_VALUE_LENGTH) \
+    LOADS(load_refused_22_shill, given_short_shill_key, loaded.number == PLAID_DECLINE_VALUE_LENGTH) \
     LOADS(load_refused_1, given_too_many, loaded.number == PLAID_DECLINE_KEY_SET_COUNT) \
     LOADS(load_refused_3, given_bad_handle, loaded.number == PLAID_DECLINE_SHILL_HANDLE) \
     LOADS(load_refused_5, given_bad_mode, loaded.number == PLAID_DECLINE_MODE_REPEATED) \
@@ -256,7 +289,7 @@ static bool answered(size_t length)
     RUNS(initial_refused, given_unknown, PLAID_FRESH, PLAID_OUTPUT, answered(256) && !outcome.card.session.opened) \
     RUNS(initial_malformed, given_malformed, PLAID_FRESH, PLAID_OUTPUT, answered(256) && !outcome.card.session.opened) \
     RUNS(final_accepted, given_longest_final, PLAID_FRESH, PLAID_OUTPUT, command[4] == 240 && answered(96) && taken()) \
-    RUNS(final_accepted_48, given_shortest_final, PLAID_FRESH, PLAID_OUTPUT, command[4] == 48 && answered(96) && taken()) \
+    RUNS(final_accepted_least, given_shortest_final, PLAID_FRESH, PLAID_OUTPUT, command[4] == LEAST - 6 && answered(96) && taken()) \
     RUNS(final_accepted_filled, given_filled_final, PLAID_FRESH, PLAID_OUTPUT, command[4] == 240 && answered(96) && taken()) \
     RUNS(final_refused, given_wrong_final, PLAID_FRESH, PLAID_OUTPUT, command[4] == 240 && answered(96) && !taken()) \
     RUNS(final_bad_padding, given_bad_padding, PLAID_FRESH, PLAID_OUTPUT, command[4] == 240 && answered(96) && !taken()) \
@@ -266,18 +299,24 @@ static bool answered(size_t length)
     c(LIST, listed, given_ids, written = plaid_list(ids, out, sizeof out), written.length == PLAID_LIST_COMMAND_MOST) \
     c(LIST, declined_12, given_ids_twice, written = plaid_list(ids, out, sizeof out), written.number == PLAID_DECLINE_LIST_REPEATED) \
     c(LIST, declined_13, given_ids, written = plaid_list(ids, out, 71), written.number == PLAID_DECLINE_LIST_OUTPUT) \
-    c(OPEN, opened_last, given_blocks, open_at(&opened, ids, blocks, sizeof blocks), opened.number == PLAID_DONE && opened.place == 15) \
-    c(OPEN, none_opens, given_no_block, open_at(&opened, ids, blocks, sizeof blocks), opened.number == PLAID_DECLINE_NONE_OPENS) \
-    c(OPEN, declined_14, given_blocks, open_at(&opened, ids, blocks, 1), opened.number == PLAID_DECLINE_BLOCKS) \
-    c(SEAL, sealed_most, given_seal, seal_at(&sealed, sealing, payload, PLAID_PAYLOAD, out, sizeof out), sealed.length == 246) \
-    c(SEAL, sealed_least, given_seal, seal_at(&sealed, sealing, payload, 0, out, sizeof out), sealed.length == 54) \
-    c(SEAL, declined_16, given_seal, seal_at(&sealed, sealing, payload, 206, out, sizeof out), sealed.number == PLAID_DECLINE_PAYLOAD) \
-    c(SEAL, declined_17, given_seal, seal_at(&sealed, sealing, payload, 0, out, 53), sealed.number == PLAID_DECLINE_SEAL_OUTPUT) \
+    c(OPEN, opened_last, given_blocks, open_at(&opened, open_length, ids, blocks, sizeof blocks), opened.number == PLAID_DONE && opened.place == 15) \
+    c(OPEN, none_opens, given_no_block, open_at(&opened, open_length, ids, blocks, sizeof blocks), opened.number == PLAID_DECLINE_NONE_OPENS) \
+    c(OPEN, open_declined_21, given_open_no_length, open_at(&opened, open_length, ids, blocks, sizeof blocks), opened.number == 21) \
+    c(OPEN, declined_14, given_blocks, open_at(&opened, open_length, ids, blocks, 1), opened.number == PLAID_DECLINE_BLOCKS) \
+    c(SEAL, sealed_most, given_seal, seal_at(&sealed, sealing, payload, MOST, out, sizeof out), sealed.length == 246) \
+    c(SEAL, sealed_least, given_seal, seal_at(&sealed, sealing, payload, 0, out, sizeof out), sealed.length == LEAST) \
+    c(SEAL, seal_declined_21, given_seal_no_length, seal_at(&sealed, sealing, payload, 0, out, sizeof out), sealed.number == 21) \
+    c(SEAL, seal_declined_22, given_seal_short_key, seal_at(&sealed, sealing, payload, 0, out, sizeof out), sealed.number == 22) \
+    c(SEAL, seal_declined_22_rnd2, given_seal_short_rnd2, seal_at(&sealed, sealing, payload, 0, out, sizeof out), sealed.number == 22) \
+    c(SEAL, declined_16, given_seal, seal_at(&sealed, sealing, payload, MOST + 1, out, sizeof out), sealed.number == PLAID_DECLINE_PAYLOAD) \
+    c(SEAL, declined_17, given_seal, seal_at(&sealed, sealing, payload, 0, out, LEAST - 1), sealed.number == PLAID_DECLINE_SEAL_OUTPUT) \
     c(ACCEPT, accepted_96, given_response, accepted = plaid_accept(accepting, response, 96, work, 96), accepted.length == PLAID_CARD_RECORD) \
     c(ACCEPT, refused_96, given_wrong_response, accepted = plaid_accept(accepting, response, 96, work, 96), accepted.number == 20) \
     c(ACCEPT, accepted_filled, given_filled_response, accepted = plaid_accept(accepting, response, 96, work, 96), accepted.length == 1) \
     c(ACCEPT, refused_longer, given_longer_record, accepted = plaid_accept(accepting, response, 96, work, 96), accepted.number == 20) \
     c(ACCEPT, refused_empty, given_empty_record, accepted = plaid_accept(accepting, response, 96, work, 96), accepted.number == 20) \
+    c(ACCEPT, accept_declined_21, given_accept_no_length, accepted = plaid_accept(accepting, response, 96, work, 96), accepted.number == 21) \
+    c(ACCEPT, accept_declined_22, given_accept_short_hash, accepted = plaid_accept(accepting, response, 96, work, 96), accepted.number == 22) \
     c(ACCEPT, declined_18, given_response, accepted = plaid_accept(accepting, response, 33, work, 96), accepted.number == 18) \
     c(ACCEPT, declined_19, given_response, accepted = plaid_accept(accepting, response, 96, work, 95), accepted.number == 19) \
     c(RECORD, record_part, given_record, part = plaid_record(work, sizeof work, accepted), part.length == PLAID_CARD_RECORD) \
@@ -407,15 +446,17 @@ static size_t reserved(const char *name, char **words)
 
 static size_t deepest_of(enum function of)
 {
-    size_t most = 0;
-    for (size_t i = 0; i < LENGTH(calls); i++) {
-        if (calls[i].of != of)
+    size_t deepest_call = 0;
+    for (size_t i = 0; i < 3 * LENGTH(calls); i++) {
+        size_t at = i / 3;
+        if (calls[at].of != of)
             continue;
-        size_t bytes = depth(calls[i].give, calls[i].call);
-        check(calls[i].took(), calls[i].label, "the call took another path");
-        most = bytes > most ? bytes : most;
+        key_length = 16 + 8 * (i % 3);
+        size_t bytes = depth(calls[at].give, calls[at].call);
+        check(calls[at].took(), calls[at].label, "the call took another path");
+        deepest_call = bytes > deepest_call ? bytes : deepest_call;
     }
-    return most;
+    return deepest_call;
 }
 
 int main(int argc, char **argv)

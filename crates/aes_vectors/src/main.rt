@@ -1,25 +1,11 @@
-// Runs NIST's response files for AES with keys of 128, 192 and 256 bits, ECB and CBC, in both directions, and then the worked examples of
-// FIPS 197. A file that cannot be read, and a record that cannot, each gives a line of its own, as a block that differs does. A record
-// whose key has not the length that the file's name says is one that cannot be read.
-//
-// CBC takes its start block as an argument: a vector's IV is run by passing it there.
-mod fips197;
-mod tally;
-
-use tally::Ran;
-use tally::Tally;
-use tally::compare;
-ghost use mathlib.Core.Path.{_≡_};
-ghost use mathlib.Core.Bool.{true};
-ghost use Prim.Native.Nat.{_<_, _≤_};
+// Runs NIST's response files for AES with keys of 128, 192 and 256 bits, ECB and CBC, in both directions. A file that cannot be read, and a
+// record that cannot, each gives a line of its own, as a block that differs does. A record whose key has not the length that the file's name
+// says is one that cannot be read.
+use aes_runs::Mode;
+use aes_runs::Ran;
+use aes_runs::Tally;
+ghost use Prim.Native.Nat.{_≤_};
 ghost use lib.ListN.{length};
-ghost use Rattle.key_expansion.specs.KeyLength.{keyLength};
-
-// How a file's records are run: each block by itself (ECB) or chained (CBC), and in which direction.
-struct Mode {
-    is_chained: bool,
-    is_inverse: bool,
-}
 
 // The sections of a file. A record that stands in neither cannot be run.
 const NO_SECTION: u8 = 0;
@@ -40,70 +26,6 @@ fn section_at(s: &[u8], i: usize, last: u8) -> u8 {
         return NO_SECTION;
     }
     last
-}
-
-fn one_block(w: &[[u8; 16]], b: [u8; 16], is_inverse: bool) -> [u8; 16]
-    requires { ⌜ 1 < length (now w) ⌝ }
-{
-    if is_inverse {
-        aes::decipher(w, b)
-    } else {
-        aes::encipher(w, b)
-    }
-}
-
-// ECB: each whole block by itself.
-fn each_block(w: &[[u8; 16]], text: &mut [u8], is_inverse: bool)
-    requires { ⌜ 1 < length (now w) ⌝ }
-{
-    let blocks = text.len() / 16;
-    let mut i = 0;
-    while i < blocks {
-        let at = 16 * i;
-        let b = one_block(w, octets::block_at(text, at), is_inverse);
-        octets::copy_at(text, at, &b);
-        i += 1;
-    }
-}
-
-fn apply(mode: Mode, key: &[u8], start: [u8; 16], text: &mut [u8])
-    requires { ⌜ keyLength (length (now key)) ≡ true ⌝ }
-{
-    let rows = key_expansion::expand(key);
-    let n = key.len() / 4 + 7;
-    let w = &rows[..n];
-    if !mode.is_chained {
-        each_block(w, text, mode.is_inverse);
-        return;
-    }
-    if mode.is_inverse {
-        cbc::decipher(key, w, start, text, 0);
-    } else {
-        cbc::encipher(key, w, start, text, 0);
-    }
-}
-
-// Runs the first n bytes of `text` under the first k of `key`, and compares them with those of `wanted`.
-fn run_text(
-    mode: Mode,
-    key: [u8; 32],
-    k: usize,
-    start: [u8; 16],
-    text: &mut [u8],
-    wanted: &[u8],
-    n: usize,
-) -> Ran {
-    if !key_expansion::is_key_length(k) {
-        return Ran::Unread;
-    }
-    if text.len() < n {
-        return Ran::Unread;
-    }
-    if wanted.len() < n {
-        return Ran::Unread;
-    }
-    apply(mode, &key[..k], start, &mut text[0..n]);
-    compare(&text[0..n], &wanted[0..n])
 }
 
 // What a file's name says of its records: whether they are chained (CBC), and how many bytes their keys have.
@@ -140,10 +62,10 @@ fn record(s: &[u8], i: usize, kind: Kind, section: u8) -> Ran {
         is_inverse: section == DECRYPT,
     };
     if section == ENCRYPT {
-        return run_text(mode, key, k, start, &mut plain, &cipher, n);
+        return aes_runs::run_text(mode, key, k, start, &mut plain, &cipher, n);
     }
     if section == DECRYPT {
-        return run_text(mode, key, k, start, &mut cipher, &plain, n);
+        return aes_runs::run_text(mode, key, k, start, &mut cipher, &plain, n);
     }
     Ran::Unread
 }
@@ -246,6 +168,5 @@ fn lengths(mode: &[u8]) -> Tally {
 }
 
 fn main() {
-    let all = lengths(b"ECB").and(lengths(b"CBC"));
-    all.and(fips197::examples()).say(b"total");
+    lengths(b"ECB").and(lengths(b"CBC")).say(b"total");
 }

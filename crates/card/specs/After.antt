@@ -1,12 +1,24 @@
--- What a call hands back after an initial and after a final command, from what those tell of their reply. Assumes nothing.
-use Rattle.plaid_types.specs.Cards.{withSession, noSession}
-use Rattle.plaid_types.specs.declared.Card.{Card}
+-- What a call tells, with the session after it: all of its outcome but the rest of the card; after a decline; and after an initial and after a
+-- final command, from what those tell of their reply. Assumes nothing.
+use Rattle.frame.specs.declared.Verdict.{Verdict}
+use Rattle.plaid_types.specs.Cards.{noSession}
+use Rattle.plaid_types.specs.declared.Session.{Session}
 use Rattle.plaid_types.specs.declared.Outcome.{Outcome}
 use Rattle.initial.specs.declared.Initial.{Initial}
 use Rattle.final_command.specs.declared.Final.{Final}
+use Rattle.card.specs.Command.{declined}
+use Rattle.card.specs.declared.Told.{Told}
 
-abbrev pub afterInitial : Card → Initial → Outcome
-afterInitial c r =
+-- of an outcome: of its card only the session
+abbrev pub toldOf : Outcome → Told
+toldOf o = record { answer = o .answer; sum = o .sum; session = o .card .session }
+
+-- no steps, and the session as it was
+abbrev pub afterDecline : Session → Verdict → Told
+afterDecline s v = record { answer = declined v; sum = 0; session = s }
+
+abbrev pub afterInitial : Initial → Told
+afterInitial r =
     record {
       answer =
           record {
@@ -21,11 +33,11 @@ afterInitial c r =
             handle = r .handle;
           };
       sum = r .sum;
-      card = withSession c (r .session);
+      session = r .session;
     }
 
-abbrev pub afterFinal : Card → Final → Outcome
-afterFinal c r =
+abbrev pub afterFinal : Final → Told
+afterFinal r =
     record {
       answer =
           record {
@@ -40,5 +52,5 @@ afterFinal c r =
             handle = 0;
           };
       sum = r .sum;
-      card = withSession c noSession;
+      session = noSession;
     }

@@ -1,4 +1,4 @@
--- Document 01: a command call, from "Frame" to "Work sum", with its declines.
+-- Document 01: a command call, from "Frame" to "Work sum", with its declines; T-04 of document 02.
 use mathlib.Core.Bool.{cond}
 use mathlib.Core.List.{List, []}
 use Prim.Native.Nat.{ℕ}
@@ -10,6 +10,7 @@ use Rattle.frame.specs.Declines.{verdict}
 use Rattle.frame.specs.declared.Verdict.{Verdict}
 use Rattle.initial.specs.Initial.{initialReply}
 use Rattle.final_command.specs.Final.{finalReply}
+use Rattle.plaid_types.specs.Keys.{keyLengthOf}
 use Rattle.plaid_types.specs.Cards.{Reply, withSession}
 use Rattle.plaid_types.specs.declared.Card.{Card}
 use Rattle.plaid_types.specs.declared.Answer.{Answer}
@@ -49,9 +50,9 @@ declined v =
       handle = 0;
     }
 
--- the verdict on a call, by its frame and its length
-abbrev pub verdictOn : List ℕ → List ℕ → ℕ → Verdict
-verdictOn cmd fresh room = verdict (length cmd) (frameOf cmd) fresh room
+-- the verdict on a call, by its frame and its length. T-04: for keys of l bytes, on which the pad bytes depend
+abbrev pub verdictOn : ℕ → List ℕ → List ℕ → ℕ → Verdict
+verdictOn l cmd fresh room = verdict l (length cmd) (frameOf cmd) fresh room
 
 -- a command that is not declined: "each command call also hands back a sum over its steps", which "is no part of the answer"
 abbrev pub done : Card → Reply → Outcome
@@ -64,8 +65,8 @@ undone c v = record { answer = declined v; sum = 0; card = c }
 -- "A command is declined by 8, 9, 10 or a fault of its frame"
 unfoldable pub outcome : Card → List ℕ → List ℕ → ℕ → Outcome
 outcome c cmd fresh room =
-    cond (eqb (verdictOn cmd fresh room .status) 0x9000) (done c (replyTo c cmd fresh)) (undone c (verdictOn cmd fresh room))
+    cond (eqb (verdictOn (keyLengthOf c) cmd fresh room .status) 0x9000) (done c (replyTo c cmd fresh)) (undone c (verdictOn (keyLengthOf c) cmd fresh room))
 
 -- "The answer bytes are the first 256 or 16B of the output, none after a decline."
 unfoldable pub answerBytes : Card → List ℕ → List ℕ → ℕ → List ℕ
-answerBytes c cmd fresh room = cond (eqb (verdictOn cmd fresh room .status) 0x9000) (replyTo c cmd fresh .bytes) []
+answerBytes c cmd fresh room = cond (eqb (verdictOn (keyLengthOf c) cmd fresh room .status) 0x9000) (replyTo c cmd fresh .bytes) []

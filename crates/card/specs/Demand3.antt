@@ -1,6 +1,6 @@
 -- Demand 3, for every list of commands: at each place the formulas, the work sum of the steps that load, session and call give, and
 -- what two lists on two cards have alike. Assumes nothing.
-use mathlib.Core.Path.{_≡_, refl, sym, ap, _∙_}
+use mathlib.Core.Path.{_≡_, refl, sym, ap, ap₂, _∙_}
 use mathlib.Core.Bool.{Bool, true, false, cond, _&&_, not}
 use mathlib.Core.List.{List, [], _∷_, _++_, map}
 use Prim.Native.Nat.{ℕ, suc, _*_, _/_, _≤_}
@@ -19,7 +19,8 @@ use Rattle.octets.specs.Lists.{part, over}
 use Rattle.aes.specs.Aes.{aesUnder}
 use Rattle.cbc.specs.Cbc.{encrypted, zeros}
 use Rattle.final_command.specs.Final.{sizeOf, acceptsFinal, replyKey, replyText, replyBuffer, finalBytes, finalReply}
-use Rattle.final_command.specs.Laws.{final-length, final-comparisons, final-decipherments, final-encipherments, final-expansions, final-hash-blocks, size-loaded, rnd1-length}
+use Rattle.final_command.specs.Laws.{Stored, final-length, final-comparisons, final-decipherments, final-encipherments, final-expansions, final-hash-blocks, size-loaded}
+use Rattle.plaid_types.specs.Keys.{keyLengthOf, held, str1Length}
 use Rattle.plaid_types.specs.Cards.{noSession, withSession, Reply}
 use Rattle.plaid_types.specs.declared.Session.{Session}
 use Rattle.plaid_types.specs.declared.Card.{Card}
@@ -32,7 +33,7 @@ pub record Sound (c : Card) : Type 0 where
   pub sets : length (c .sets) ≡ 8
   pub modes : length (c .modes) ≡ 16
   pub div : length (c .«div_data») ≡ 16
-  pub rnd1 : length (c .session .rnd1) ≡ 16
+  pub stored : Stored c
   pub size : c .«reply_size» ≤ 6
 
 initial-shape : (c : Card) (cmd fresh : List ℕ) → Sound c → length fresh ≡ 253 → length (dataOf cmd) ≡ lcOf (frameOf cmd) →
@@ -57,16 +58,15 @@ initial-shape c cmd fresh s lf ld =
         rw (one, no)
 
 final-shape : (c : Card) (cmd fresh : List ℕ) → Sound c → length (dataOf cmd) ≡ lcOf (frameOf cmd) →
-    shapeOf (told (finalReply c (dataOf cmd) fresh)) ≡ finalShape (c .«reply_size») (lcOf (frameOf cmd))
+    shapeOf (told (finalReply c (dataOf cmd) fresh)) ≡ finalShape (keyLengthOf c) (c .«reply_size») (lcOf (frameOf cmd))
 final-shape c cmd fresh s ld =
     let d : List ℕ = dataOf cmd in
-    let lr = rnd1-length c (s .rnd1) in
     rw (
-      final-comparisons c d fresh (s .modes) lr,
-      final-decipherments c d fresh (s .modes) lr,
-      final-encipherments c d fresh (s .modes) lr,
-      final-expansions c d fresh (s .modes) lr,
-      final-hash-blocks c d fresh (s .modes) lr,
+      final-comparisons c d fresh (s .modes) (s .stored),
+      final-decipherments c d fresh (s .modes) (s .stored),
+      final-encipherments c d fresh (s .modes) (s .stored),
+      final-expansions c d fresh (s .modes) (s .stored),
+      final-hash-blocks c d fresh (s .modes) (s .stored),
       final-length c d fresh,
       size-loaded c (s .size),
       ld,
@@ -75,57 +75,64 @@ final-shape c cmd fresh s ld =
 -- one call
 module _ (c : Card) (cmd fresh : List ℕ) (room : ℕ) where
   ins-shape : (t : Bool) → Sound c → length fresh ≡ 253 → length (dataOf cmd) ≡ lcOf (frameOf cmd) →
-      shapeOf (told (cond t (initialReply c (dataOf cmd) fresh) (finalReply c (dataOf cmd) fresh))) ≡ cond t (initialShape (lcOf (frameOf cmd))) (finalShape (c .«reply_size») (lcOf (frameOf cmd)))
+      shapeOf (told (cond t (initialReply c (dataOf cmd) fresh) (finalReply c (dataOf cmd) fresh))) ≡ cond t (initialShape (lcOf (frameOf cmd))) (finalShape (keyLengthOf c) (c .«reply_size») (lcOf (frameOf cmd)))
   ins-shape true s lf ld = initial-shape c cmd fresh s lf ld
   ins-shape false s lf ld = final-shape c cmd fresh s ld
 
-  status-shape : (t : Bool) → eqb (verdictOn cmd fresh room .status) 0x9000 ≡ t → Sound c →
-      shapeOf (cond {A = Outcome} t (done c (replyTo c cmd fresh)) (undone c (verdictOn cmd fresh room)) .answer)
-      ≡ cond t (cond (eqb (insOf (frameOf cmd)) initialIns) (initialShape (lcOf (frameOf cmd))) (finalShape (c .«reply_size») (lcOf (frameOf cmd)))) (declineShape (verdictOn cmd fresh room))
+  status-shape : (t : Bool) → eqb (verdictOn (keyLengthOf c) cmd fresh room .status) 0x9000 ≡ t → Sound c →
+      shapeOf (cond {A = Outcome} t (done c (replyTo c cmd fresh)) (undone c (verdictOn (keyLengthOf c) cmd fresh room)) .answer)
+      ≡ cond t (cond (eqb (insOf (frameOf cmd)) initialIns) (initialShape (lcOf (frameOf cmd))) (finalShape (keyLengthOf c) (c .«reply_size») (lcOf (frameOf cmd)))) (declineShape (verdictOn (keyLengthOf c) cmd fresh room))
   unfolding replyTo
   status-shape true e s =
-      let p = passed (length cmd) (frameOf cmd) fresh room (eqb-true _ _ e) in
+      let p = passed (keyLengthOf c) (length cmd) (frameOf cmd) fresh room (eqb-true _ _ e) in
       ins-shape (eqb (insOf (frameOf cmd)) initialIns) s (p .fresh-long) (data-long cmd (p .frame))
   status-shape false e s = refl
 
-  one-shape : Sound c → shapeOf (outcome c cmd fresh room .answer) ≡ formulas (c .«reply_size») (length cmd) (frameOf cmd) fresh room
+  one-shape : Sound c → shapeOf (outcome c cmd fresh room .answer) ≡ formulas (keyLengthOf c) (c .«reply_size») (length cmd) (frameOf cmd) fresh room
   unfolding outcome formulas
-  one-shape s = status-shape (eqb (verdictOn cmd fresh room .status) 0x9000) refl s
+  one-shape s = status-shape (eqb (verdictOn (keyLengthOf c) cmd fresh room .status) 0x9000) refl s
 
   card-cases : (t : Bool) →
-      cond {A = Outcome} t (done c (replyTo c cmd fresh)) (undone c (verdictOn cmd fresh room)) .card
+      cond {A = Outcome} t (done c (replyTo c cmd fresh)) (undone c (verdictOn (keyLengthOf c) cmd fresh room)) .card
       ≡ withSession c (cond t (replyTo c cmd fresh .session) (c .session))
   card-cases true = refl
   card-cases false = refl
 
   -- the next card differs in its session alone
-  card-kept : outcome c cmd fresh room .card ≡ withSession c (cond (eqb (verdictOn cmd fresh room .status) 0x9000) (replyTo c cmd fresh .session) (c .session))
+  pub card-kept : outcome c cmd fresh room .card ≡ withSession c (cond (eqb (verdictOn (keyLengthOf c) cmd fresh room .status) 0x9000) (replyTo c cmd fresh .session) (c .session))
   unfolding outcome
-  card-kept = card-cases (eqb (verdictOn cmd fresh room .status) 0x9000)
+  card-kept = card-cases (eqb (verdictOn (keyLengthOf c) cmd fresh room .status) 0x9000)
 
-  reply-rnd1 : (t : Bool) → length fresh ≡ 253 → length (cond t (initialReply c (dataOf cmd) fresh) (finalReply c (dataOf cmd) fresh) .session .rnd1) ≡ 16
+  reply-rnd1 : (t : Bool) → length fresh ≡ 253 → length (cond t (initialReply c (dataOf cmd) fresh) (finalReply c (dataOf cmd) fresh) .session .rnd1) ≡ 32
   unfolding finalReply
   reply-rnd1 true lf = initial-rnd1 c (dataOf cmd) fresh lf
   reply-rnd1 false lf = refl
 
-  next-rnd1 : (t : Bool) → eqb (verdictOn cmd fresh room .status) 0x9000 ≡ t → length (c .session .rnd1) ≡ 16 → length (cond t (replyTo c cmd fresh .session) (c .session) .rnd1) ≡ 16
+  next-rnd1 : (t : Bool) → eqb (verdictOn (keyLengthOf c) cmd fresh room .status) 0x9000 ≡ t → length (c .session .rnd1) ≡ 32 → length (cond t (replyTo c cmd fresh .session) (c .session) .rnd1) ≡ 32
   unfolding replyTo
-  next-rnd1 true e h = reply-rnd1 (eqb (insOf (frameOf cmd)) initialIns) (passed (length cmd) (frameOf cmd) fresh room (eqb-true _ _ e) .fresh-long)
+  next-rnd1 true e h = reply-rnd1 (eqb (insOf (frameOf cmd)) initialIns) (passed (keyLengthOf c) (length cmd) (frameOf cmd) fresh room (eqb-true _ _ e) .fresh-long)
   next-rnd1 false e h = h
 
   sound-kept : Sound c → Sound (outcome c cmd fresh room .card)
   sound-kept s =
       rw card-kept
-      (record { sets = s .sets; modes = s .modes; div = s .div; rnd1 = next-rnd1 (eqb (verdictOn cmd fresh room .status) 0x9000) refl (s .rnd1); size = s .size })
+      (record {
+        sets = s .sets;
+        modes = s .modes;
+        div = s .div;
+        stored = record { sets = s .stored .sets; shill = s .stored .shill; rnd1 = next-rnd1 (eqb (verdictOn (keyLengthOf c) cmd fresh room .status) 0x9000) refl (s .stored .rnd1) };
+        size = s .size;
+      })
 
--- DEMAND 3, the formulas: a list on a card that is sound gives at each place what the formulas of frame, length and reply size say
-pub list-formulas : (xs : List Call) (c : Card) → Sound c → map (λ o. shapeOf (o .answer)) (run c xs) ≡ map (formulasOf (c .«reply_size»)) xs
+-- DEMAND 3, the formulas: a list on a card that is sound gives at each place what the formulas of frame, length, L and reply size say
+pub list-formulas : (xs : List Call) (c : Card) → Sound c → map (λ o. shapeOf (o .answer)) (run c xs) ≡ map (formulasOf (keyLengthOf c) (c .«reply_size»)) xs
 unfolding run
 list-formulas [] c s = refl
 list-formulas (x ∷ xs) c s =
     let k : Card = outcomeOf c x .card in
     let z : k .«reply_size» ≡ c .«reply_size» = ap (λ (e : Card). e .«reply_size») (card-kept c (x .command) (x .fresh) (x .room)) in
-    rw (one-shape c (x .command) (x .fresh) (x .room) s, list-formulas xs k (sound-kept c (x .command) (x .fresh) (x .room) s), z)
+    let w : keyLengthOf k ≡ keyLengthOf c = ap keyLengthOf (card-kept c (x .command) (x .fresh) (x .room)) in
+    rw (one-shape c (x .command) (x .fresh) (x .room) s, list-formulas xs k (sound-kept c (x .command) (x .fresh) (x .room) s), w, z)
 
 -- the session of a reply, from the load and the call
 session-initial : (c : Card) (s : Session) (d fresh : List ℕ) (t : Bool) → acceptsInitial c d ≡ t →
@@ -159,10 +166,10 @@ module _ (c : Card) (s : Session) (x : Call) where
   unfolding nextSession d
   next-card =
       card-kept (withSession c s) (x .command) (x .fresh) (x .room)
-      ∙ ap (withSession c) (next-cases (eqb (verdictOn (x .command) (x .fresh) (x .room) .status) 0x9000))
+      ∙ ap (withSession c) (next-cases (eqb (verdictOn (keyLengthOf c) (x .command) (x .fresh) (x .room) .status) 0x9000))
 
   sum-cases : (t : Bool) →
-      cond {A = Outcome} t (done (withSession c s) (replyTo (withSession c s) (x .command) (x .fresh))) (undone (withSession c s) (verdictOn (x .command) (x .fresh) (x .room))) .sum
+      cond {A = Outcome} t (done (withSession c s) (replyTo (withSession c s) (x .command) (x .fresh))) (undone (withSession c s) (verdictOn (keyLengthOf c) (x .command) (x .fresh) (x .room))) .sum
       ≡ workSum (cond (not t) [] (replyTo (withSession c s) (x .command) (x .fresh) .steps))
   sum-cases true = refl
   sum-cases false = refl
@@ -170,7 +177,7 @@ module _ (c : Card) (s : Session) (x : Call) where
   -- DEMAND 3, the work sum: that of the steps that load, session and call give
   pub call-sum : outcomeOf (withSession c s) x .sum ≡ workSum (stepsOf c s x)
   unfolding outcome stepsOf
-  call-sum = sum-cases (eqb (verdictOn (x .command) (x .fresh) (x .room) .status) 0x9000)
+  call-sum = sum-cases (eqb (verdictOn (keyLengthOf c) (x .command) (x .fresh) (x .room) .status) 0x9000)
 
 -- each place of a list: the calls behind xs run on the card with the session after xs
 pub run-append : (c : Card) (s : Session) (xs ys : List Call) → run (withSession c s) (xs ++ ys) ≡ run (withSession c s) xs ++ run (withSession c (sessionAfter c s xs)) ys
@@ -204,23 +211,23 @@ place c xs ys x o e =
     (length-run (withSession c noSession) xs)
 
 -- two lists that agree
-formulas-alike : (b : ℕ) {x y : Call} → Alike x y → formulasOf b x ≡ formulasOf b y
-formulas-alike b {x} {y} a = rw (a .frames, a .lengths, a .fresh, a .rooms)
+formulas-alike : (l b : ℕ) {x y : Call} → Alike x y → formulasOf l b x ≡ formulasOf l b y
+formulas-alike l b {x} {y} a = rw (a .frames, a .lengths, a .fresh, a .rooms)
 
-all-alike : (b : ℕ) {xs ys : List Call} → AllAlike xs ys → map (formulasOf b) xs ≡ map (formulasOf b) ys
-all-alike b none = refl
-all-alike b (more {x} {y} a r) = rw (formulas-alike b a, all-alike b r)
+all-alike : (l b : ℕ) {xs ys : List Call} → AllAlike xs ys → map (formulasOf l b) xs ≡ map (formulasOf l b) ys
+all-alike l b none = refl
+all-alike l b (more {x} {y} a r) = rw (formulas-alike l b a, all-alike l b r)
 
 -- DEMAND 3, two lists on two cards: numbers, statuses, counts and lengths are equal at each place
 pub lists-alike : {xs ys : List Call} (c e : Card) → Sound c → Sound e → Agree c e → AllAlike xs ys → map (λ o. shapeOf (o .answer)) (run c xs) ≡ map (λ o. shapeOf (o .answer)) (run e ys)
 lists-alike {xs} {ys} c e sc se g a =
-    list-formulas xs c sc ∙ ap (λ (b : ℕ). map (formulasOf b) xs) (g .size) ∙ all-alike (e .«reply_size») a ∙ sym (list-formulas ys e se)
+    list-formulas xs c sc ∙ ap₂ (λ (l b : ℕ). map (formulasOf l b) xs) (g .keyLengths) (g .size) ∙ all-alike (keyLengthOf e) (e .«reply_size») a ∙ sym (list-formulas ys e se)
 
--- what a refusal answers, of shill keys, reply size and fresh bytes alone
+-- what a refusal answers, of L, shill keys, reply size and fresh bytes alone
 refusedFinal : List ℕ → ℕ → List ℕ → List ℕ
 refusedFinal key b fresh = encrypted (aesUnder key) zeros b (over (replicate 96 0) 0 (part fresh 0 (16 * b)))
 
-final-refused : (c : Card) (d fresh : List ℕ) → acceptsFinal c d ≡ false → finalReply c d fresh .bytes ≡ refusedFinal (c .«shill_key») (sizeOf c) fresh
+final-refused : (c : Card) (d fresh : List ℕ) → acceptsFinal c d ≡ false → finalReply c d fresh .bytes ≡ refusedFinal (held (keyLengthOf c) (c .«shill_key»)) (sizeOf c) fresh
 unfolding finalReply finalBytes replyKey replyBuffer replyText refusedFinal
 final-refused c d fresh e = rw e
 
@@ -228,11 +235,11 @@ initial-refused : (c : Card) (d fresh : List ℕ) → acceptsInitial c d ≡ fal
 unfolding initialReply
 initial-refused c d fresh e = rw e
 
-refusedBytes : Bool → List ℕ → ℕ → List ℕ → List ℕ
-refusedBytes t key b fresh = cond t (blockOf fresh (part fresh 0 50)) (refusedFinal key b fresh)
+refusedBytes : ℕ → Bool → List ℕ → ℕ → List ℕ → List ℕ
+refusedBytes l t key b fresh = cond t (blockOf l fresh (part fresh 0 (str1Length l))) (refusedFinal (held l key) b fresh)
 
 ins-refused : (c : Card) (d fresh : List ℕ) (t : Bool) → cond t (acceptsInitial c d) (acceptsFinal c d) ≡ false →
-    (cond t (initialReply c d fresh) (finalReply c d fresh) .bytes ≡ refusedBytes t (c .«shill_key») (sizeOf c) fresh)
+    (cond t (initialReply c d fresh) (finalReply c d fresh) .bytes ≡ refusedBytes (keyLengthOf c) t (c .«shill_key») (sizeOf c) fresh)
     × (cond t (initialReply c d fresh) (finalReply c d fresh) .handle ≡ cond t (c .«shill_handle») 0)
 unfolding refusedBytes finalReply
 ins-refused c d fresh true e = (ap (λ (r : Reply). r .bytes) (initial-refused c d fresh e), ap (λ (r : Reply). r .handle) (initial-refused c d fresh e))
@@ -246,34 +253,34 @@ handle-cases c r v false = refl
 
 module _ (c : Card) (x : Call) where
   ok : Bool
-  ok = eqb (verdictOn (x .command) (x .fresh) (x .room) .status) 0x9000
+  ok = eqb (verdictOn (keyLengthOf c) (x .command) (x .fresh) (x .room) .status) 0x9000
 
   bytes-cases : (t : Bool) → (not (not t) && cond (isInitial x) (acceptsInitial c (dataOf (x .command))) (acceptsFinal c (dataOf (x .command)))) ≡ false →
-      (cond t (replyTo c (x .command) (x .fresh) .bytes) [] ≡ cond t (refusedBytes (isInitial x) (c .«shill_key») (sizeOf c) (x .fresh)) [])
+      (cond t (replyTo c (x .command) (x .fresh) .bytes) [] ≡ cond t (refusedBytes (keyLengthOf c) (isInitial x) (c .«shill_key») (sizeOf c) (x .fresh)) [])
       × (cond t (replyTo c (x .command) (x .fresh) .handle) 0 ≡ cond t (cond (isInitial x) (c .«shill_handle») 0) 0)
   unfolding replyTo
   bytes-cases true e = ins-refused c (dataOf (x .command)) (x .fresh) (isInitial x) e
   bytes-cases false e = (refl, refl)
 
-  refused-bytes : accepted c x ≡ false → bytesOf c x ≡ cond ok (refusedBytes (isInitial x) (c .«shill_key») (sizeOf c) (x .fresh)) []
+  refused-bytes : accepted c x ≡ false → bytesOf c x ≡ cond ok (refusedBytes (keyLengthOf c) (isInitial x) (c .«shill_key») (sizeOf c) (x .fresh)) []
   unfolding accepted answerBytes ok
   refused-bytes e = bytes-cases ok e .0
 
   refused-handle : accepted c x ≡ false → outcomeOf c x .answer .handle ≡ cond ok (cond (isInitial x) (c .«shill_handle») 0) 0
   unfolding accepted outcome ok
-  refused-handle e = handle-cases c (replyTo c (x .command) (x .fresh)) (verdictOn (x .command) (x .fresh) (x .room)) ok ∙ bytes-cases ok e .1
+  refused-handle e = handle-cases c (replyTo c (x .command) (x .fresh)) (verdictOn (keyLengthOf c) (x .command) (x .fresh) (x .room)) ok ∙ bytes-cases ok e .1
 
 same-answer : (c e : Card) (x y : Call) → Agree c e → Alike x y → accepted c x ≡ false → accepted e y ≡ false → SameAnswer c e x y
 unfolding ok sizeOf
 same-answer c e x y g a n m =
     record {
-      bytes = refused-bytes c x n ∙ rw (a .frames, a .lengths, a .fresh, a .rooms, g .key, g .size) (sym (refused-bytes e y m));
-      handle = refused-handle c x n ∙ rw (a .frames, a .lengths, a .fresh, a .rooms, g .handle) (sym (refused-handle e y m));
+      bytes = refused-bytes c x n ∙ rw (a .frames, a .lengths, a .fresh, a .rooms, g .keyLengths, g .key, g .size) (sym (refused-bytes e y m));
+      handle = refused-handle c x n ∙ rw (a .frames, a .lengths, a .fresh, a .rooms, g .keyLengths, g .handle) (sym (refused-handle e y m));
     }
 
 agree-kept : (c e : Card) (x y : Call) → Agree c e → Agree (outcomeOf c x .card) (outcomeOf e y .card)
 agree-kept c e x y g =
-    rw (card-kept c (x .command) (x .fresh) (x .room), card-kept e (y .command) (y .fresh) (y .room)) (record { key = g .key; handle = g .handle; size = g .size })
+    rw (card-kept c (x .command) (x .fresh) (x .room), card-kept e (y .command) (y .fresh) (y .room)) (record { keyLengths = g .keyLengths; key = g .key; handle = g .handle; size = g .size })
 
 -- DEMAND 3, two lists on two cards: where neither accepts, the same answer bytes and key handle, at each place
 pub lists-indistinct : {xs ys : List Call} (c e : Card) → Agree c e → AllAlike xs ys → Indistinct c e xs ys

@@ -1,9 +1,9 @@
--- Document 01, "Lists of commands".
+-- Document 01, "Lists of commands", with T-04 of document 02.
 use mathlib.Core.Bool.{Bool, false, cond, _&&_, not}
 use mathlib.Core.List.{List, [], _∷_}
 use mathlib.Core.Path.{_≡_}
 use Prim.Native.Nat.{ℕ, _+_, _*_, _/_}
-use lib.Dec.{eqb}
+use lib.Dec.{eqb, ltb}
 use lib.ListN.{length}
 use Rattle.work.specs.Steps.{Step}
 use Rattle.frame.specs.Frame.{frameOf, insOf, lcOf, initialIns, dataOf}
@@ -11,6 +11,7 @@ use Rattle.frame.specs.Declines.{verdict}
 use Rattle.frame.specs.declared.Verdict.{Verdict}
 use Rattle.initial.specs.Initial.{acceptsInitial, initialReply}
 use Rattle.final_command.specs.Final.{acceptsFinal}
+use Rattle.plaid_types.specs.Keys.{keyLengthOf}
 use Rattle.plaid_types.specs.Cards.{noSession, withSession}
 use Rattle.plaid_types.specs.declared.Session.{Session}
 use Rattle.plaid_types.specs.declared.Card.{Card}
@@ -40,9 +41,9 @@ unfoldable pub cardAfter : Card → List Call → Card
 cardAfter c [] = c
 cardAfter c (x ∷ xs) = cardAfter (outcomeOf c x .card) xs
 
--- "A command is declined by 8, 9, 10 or a fault of its frame"
-abbrev pub isDeclined : Call → Bool
-isDeclined x = not (eqb (verdictOn (x .command) (x .fresh) (x .room) .status) 0x9000)
+-- "A command is declined by 8, 9, 10 or a fault of its frame", of a card with keys of l bytes
+abbrev pub isDeclined : ℕ → Call → Bool
+isDeclined l x = not (eqb (verdictOn l (x .command) (x .fresh) (x .room) .status) 0x9000)
 
 abbrev pub isInitial : Call → Bool
 isInitial x = eqb (insOf (frameOf (x .command))) initialIns
@@ -51,7 +52,7 @@ isInitial x = eqb (insOf (frameOf (x .command))) initialIns
 -- a declined command keeps it": the session after a call, from the load c, the session s before it, and the call
 unfoldable pub nextSession : Card → Session → Call → Session
 nextSession c s x =
-    cond (isDeclined x) s
+    cond (isDeclined (keyLengthOf c) x) s
     (cond (isInitial x && acceptsInitial c (dataOf (x .command))) (initialReply c (dataOf (x .command)) (x .fresh) .session) noSession)
 
 -- "The session at a place follows from the load and the earlier calls alone": the session after the calls xs
@@ -61,7 +62,7 @@ sessionAfter c s (x ∷ xs) = sessionAfter c (nextSession c s x) xs
 
 -- "With the load, that session and the call, the steps above give the work sum"; a declined command "makes no steps"
 unfoldable pub stepsOf : Card → Session → Call → List Step
-stepsOf c s x = cond (isDeclined x) [] (replyTo (withSession c s) (x .command) (x .fresh) .steps)
+stepsOf c s x = cond (isDeclined (keyLengthOf c) x) [] (replyTo (withSession c s) (x .command) (x .fresh) .steps)
 
 -- number, status, the five counts and the answer length of a call
 pub record Shape : Type 0 where
@@ -91,23 +92,35 @@ shapeOf a =
 abbrev pub initialShape : ℕ → Shape
 initialShape lc = record { number = 0; status = 0x9000; comparisons = 8 * (lc / 4); decipherments = 0; encipherments = 0; expansions = 0; hashBlocks = 0; size = 256 }
 
--- "Final: 16 comparisons, n decipherments, B + 1 encipherments, 3 expansions, 1 hash block. Answer length: .. 16B."
-abbrev pub finalShape : ℕ → ℕ → Shape
-finalShape b lc = record { number = 0; status = 0x9000; comparisons = 16; decipherments = lc / 16; encipherments = b + 1; expansions = 3; hashBlocks = 1; size = 16 * b }
+-- "Final: 16 comparisons, n decipherments, B + 1 encipherments, 3 expansions, 1 hash block. Answer length: .. 16B." T-04: "One encipherment more is
+-- made for L over 16", and hash blocks are "2 for L = 32 and else 1"
+abbrev pub finalShape : ℕ → ℕ → ℕ → Shape
+finalShape l b lc =
+    record {
+      number = 0;
+      status = 0x9000;
+      comparisons = 16;
+      decipherments = lc / 16;
+      encipherments = b + cond (ltb 16 l) 2 1;
+      expansions = 3;
+      hashBlocks = cond (eqb l 32) 2 1;
+      size = 16 * b;
+    }
 
 -- "its status, counts and length are those written under that decline"
 abbrev pub declineShape : Verdict → Shape
 declineShape v = record { number = v .number; status = v .status; comparisons = 0; decipherments = 0; encipherments = 0; expansions = 0; hashBlocks = 0; size = 0 }
 
--- document 01's formulas "of frame, length and reply size": b is B, n the length and f the frame; fresh bytes and output size decide 8 to 10
-unfoldable pub formulas : ℕ → ℕ → List ℕ → List ℕ → ℕ → Shape
-formulas b n f fresh room =
-    cond (eqb (verdict n f fresh room .status) 0x9000)
-    (cond (eqb (insOf f) initialIns) (initialShape (lcOf f)) (finalShape b (lcOf f)))
-    (declineShape (verdict n f fresh room))
+-- document 01's formulas "of frame, length and reply size", and T-04: L, "which demand 3's formulas take beside the reply size". l is L, b is B, n the
+-- length and f the frame; fresh bytes and output size decide 8 to 10
+unfoldable pub formulas : ℕ → ℕ → ℕ → List ℕ → List ℕ → ℕ → Shape
+formulas l b n f fresh room =
+    cond (eqb (verdict l n f fresh room .status) 0x9000)
+    (cond (eqb (insOf f) initialIns) (initialShape (lcOf f)) (finalShape l b (lcOf f)))
+    (declineShape (verdict l n f fresh room))
 
-abbrev pub formulasOf : ℕ → Call → Shape
-formulasOf b x = formulas b (length (x .command)) (frameOf (x .command)) (x .fresh) (x .room)
+abbrev pub formulasOf : ℕ → ℕ → Call → Shape
+formulasOf l b x = formulas l b (length (x .command)) (frameOf (x .command)) (x .fresh) (x .room)
 
 -- where two lists agree: at each place in frame, length, fresh bytes and output size; and "Two lists compared are equally long."
 pub record Alike (x y : Call) : Type 0 where
@@ -120,15 +133,16 @@ pub data AllAlike : List Call → List Call → Type 0 where
   none : AllAlike [] []
   more : {x y : Call} {xs ys : List Call} → Alike x y → AllAlike xs ys → AllAlike (x ∷ xs) (y ∷ ys)
 
--- where two cards agree: "a shill AES key and a shill RSA handle, together its shill keys", and reply size
+-- where two cards agree: "a shill AES key and a shill RSA handle, together its shill keys", and reply size. T-04: "cards compared share L"
 pub record Agree (c e : Card) : Type 0 where
+  pub keyLengths : keyLengthOf c ≡ keyLengthOf e
   pub key : c .«shill_key» ≡ e .«shill_key»
   pub handle : c .«shill_handle» ≡ e .«shill_handle»
   pub size : c .«reply_size» ≡ e .«reply_size»
 
 -- a call is accepted: not declined, and its command accepted by its rule. Every other call is refused or declined
 unfoldable pub accepted : Card → Call → Bool
-accepted c x = not (isDeclined x) && cond (isInitial x) (acceptsInitial c (dataOf (x .command))) (acceptsFinal c (dataOf (x .command)))
+accepted c x = not (isDeclined (keyLengthOf c) x) && cond (isInitial x) (acceptsInitial c (dataOf (x .command))) (acceptsFinal c (dataOf (x .command)))
 
 -- the same answer bytes and key handle
 pub record SameAnswer (c e : Card) (x y : Call) : Type 0 where

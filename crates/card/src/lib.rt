@@ -5,19 +5,27 @@ use initial::Initial;
 use plaid_types::Answer;
 use plaid_types::Card;
 use plaid_types::Outcome;
+use plaid_types::Session;
 ghost use mathlib.Core.Path.{_≡_};
 ghost use Prim.Native.Nat.{_-_, _≤_};
 ghost use lib.ListN.{length};
 ghost use Rattle.octets.specs.Lists.{over};
 ghost use Rattle.frame.specs.Frame.{dataOf};
-ghost use Rattle.card.specs.Command.{undone, outcome, answerBytes};
-ghost use Rattle.card.specs.After.{afterInitial, afterFinal};
+ghost use Rattle.card.specs.Command.{outcome, answerBytes};
+ghost use Rattle.card.specs.After.{toldOf, afterDecline, afterInitial, afterFinal};
 
-// A decline: no steps, and the card as it was.
-fn decline(card: Card, v: Verdict) -> Outcome
-    ensures { λ r. ⌜ r ≡ undone card v ⌝ }
+// What a command call hands back, and of the card only the session: `command` copies the card, and the other functions do not.
+struct Told {
+    answer: Answer,
+    sum: u32,
+    session: Session,
+}
+
+// A decline: no steps, and the session as it was.
+fn decline(session: Session, v: Verdict) -> Told
+    ensures { λ r. ⌜ r ≡ afterDecline session v ⌝ }
 {
-    Outcome {
+    Told {
         answer: Answer {
             number: v.number,
             status: v.status,
@@ -30,17 +38,16 @@ fn decline(card: Card, v: Verdict) -> Outcome
             handle: 0,
         },
         sum: 0,
-        card: card,
+        session: session,
     }
 }
 
 // An initial command makes comparisons alone.
-fn after_initial(card: Card, r: Initial) -> Outcome
-    ensures { λ o. ⌜ o ≡ afterInitial card r ⌝ }
+fn after_initial(r: Initial) -> Told
+    ensures { λ o. ⌜ o ≡ afterInitial r ⌝ }
 {
     let session = r.session;
-    let next = card.with_session(session);
-    Outcome {
+    Told {
         answer: Answer {
             number: 0,
             status: Answer::OK,
@@ -53,18 +60,15 @@ fn after_initial(card: Card, r: Initial) -> Outcome
             handle: r.handle,
         },
         sum: r.sum,
-        card: next,
+        session: session,
     }
 }
 
 // The session closes either way, and the key handle is 0.
-fn after_final(card: Card, r: Final) -> Outcome
-    ensures { λ o. ⌜ o ≡ afterFinal card r ⌝ }
+fn after_final(r: Final) -> Told
+    ensures { λ o. ⌜ o ≡ afterFinal r ⌝ }
 {
-    let was = card.session;
-    let closed = was.close();
-    let next = card.with_session(closed);
-    Outcome {
+    Told {
         answer: Answer {
             number: 0,
             status: Answer::OK,
@@ -77,7 +81,7 @@ fn after_final(card: Card, r: Final) -> Outcome
             handle: 0,
         },
         sum: r.sum,
-        card: next,
+        session: Session::none(),
     }
 }
 
@@ -90,20 +94,39 @@ fn data_of(cmd: &[u8]) -> &[u8]
     &cmd[5..end]
 }
 
-pub fn command(card: Card, cmd: &[u8], fresh: &[u8], out: &mut [u8]) -> Outcome
-    ensures told { λ r. ⌜ r ≡ outcome card (now (cmd .entry)) (now (fresh .entry)) (length (now (out .entry))) ⌝ }
-    ensures bytes { λ _. ⌜ now (out .exit) ≡ over (now (out .entry)) 0 (answerBytes card (now (cmd .entry)) (now (fresh .entry)) (length (now (out .entry)))) ⌝ }
+// The checks of the call, then the command that its INS names.
+fn tell(card: Card, cmd: &[u8], fresh: &[u8], out: &mut [u8]) -> Told
+    ensures { λ r. ⌜ r ≡ toldOf (outcome card (now (cmd .entry)) (now (fresh .entry)) (length (now (out .entry)))) ⌝ }
+    ensures { λ _. ⌜ now (out .exit) ≡ over (now (out .entry)) 0 (answerBytes card (now (cmd .entry)) (now (fresh .entry)) (length (now (out .entry)))) ⌝ }
 {
-    let v = frame::check(cmd, fresh, out.len());
+    let l = plaid_types::lawful(card.key_length);
+    let v = frame::check(l, cmd, fresh, out.len());
     let status = v.status;
     if status != Answer::OK {
-        return decline(card, v);
+        let was = card.session;
+        return decline(was, v);
     }
     let d = data_of(cmd);
     if cmd[1] == 0x87 {
         let r = initial::run(card, d, fresh, out);
-        return after_initial(card, r);
+        return after_initial(r);
     }
     let r = final_command::run(card, d, fresh, out);
-    after_final(card, r)
+    after_final(r)
+}
+
+// The one place that copies the card, of which a command changes the session alone.
+pub fn command(card: Card, cmd: &[u8], fresh: &[u8], out: &mut [u8]) -> Outcome
+    ensures told { λ r. ⌜ r ≡ outcome card (now (cmd .entry)) (now (fresh .entry)) (length (now (out .entry))) ⌝ }
+    ensures bytes { λ _. ⌜ now (out .exit) ≡ over (now (out .entry)) 0 (answerBytes card (now (cmd .entry)) (now (fresh .entry)) (length (now (out .entry)))) ⌝ }
+{
+    let t = tell(card, cmd, fresh, out);
+    let answer = t.answer;
+    let session = t.session;
+    let next = card.with_session(session);
+    Outcome {
+        answer: answer,
+        sum: t.sum,
+        card: next,
+    }
 }

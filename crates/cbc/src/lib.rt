@@ -4,6 +4,7 @@ ghost use mathlib.Core.Path.{_≡_};
 ghost use mathlib.Core.Bool.{true};
 ghost use Prim.Native.Nat.{_+_, _/_, _^_, _<_};
 ghost use lib.ListN.{length};
+ghost use Rattle.sbox.specs.Rule.{sboxTable, invTable};
 ghost use Rattle.key_expansion.specs.KeyLength.{keyLength};
 ghost use Rattle.key_expansion.specs.Schedule.{fifteen};
 ghost use Rattle.aes.specs.Aes.{aesUnder, invAesUnder, cipherBy, invCipherBy};
@@ -32,6 +33,7 @@ const ENCIPHERMENT: u8 = 3;
 
 // One block encrypted after the block before it. The key is only what the work sum shows, and prepared for that.
 fn encipher_block(
+    table: &[u8; 256],
     key: Prepared,
     w: &[[u8; 16]],
     before: [u8; 16],
@@ -39,11 +41,11 @@ fn encipher_block(
     count: usize,
     sum: u32,
 ) -> Stepped
-    requires { ⌜ (count + 1 < 2 ^ 64) × (1 < length (now w)) ⌝ }
+    requires { ⌜ (now table ≡ sboxTable) × (count + 1 < 2 ^ 64) × (1 < length (now w)) ⌝ }
     ensures { λ r. ⌜ (r .block ≡ cipherBy (now (w .entry)) (plain ⊕ before)) × (r .count ≡ count + 1) × (r .sum ≡ mixedAll (mixedAll (mixedPrepared (mixed sum encipherment) key) (plain ⊕ before)) (cipherBy (now (w .entry)) (plain ⊕ before))) ⌝ }
 {
     let input = rounds::xor_block(plain, before);
-    let output = aes::encipher(w, input);
+    let output = aes::encipher(table, w, input);
     let made = count + 1;
     Stepped {
         block: output,
@@ -54,6 +56,7 @@ fn encipher_block(
 
 // One block decrypted after the block before it.
 fn decipher_block(
+    table: &[u8; 256],
     key: Prepared,
     w: &[[u8; 16]],
     before: [u8; 16],
@@ -61,10 +64,10 @@ fn decipher_block(
     count: usize,
     sum: u32,
 ) -> Stepped
-    requires { ⌜ (count + 1 < 2 ^ 64) × (1 < length (now w)) ⌝ }
+    requires { ⌜ (now table ≡ invTable) × (count + 1 < 2 ^ 64) × (1 < length (now w)) ⌝ }
     ensures { λ r. ⌜ (r .block ≡ invCipherBy (now (w .entry)) cipher ⊕ before) × (r .count ≡ count + 1) × (r .sum ≡ mixedAll (mixedAll (mixedPrepared (mixed sum decipherment) key) cipher) (invCipherBy (now (w .entry)) cipher)) ⌝ }
 {
-    let output = aes::decipher(w, cipher);
+    let output = aes::decipher(table, w, cipher);
     let plain = rounds::xor_block(output, before);
     let made = count + 1;
     Stepped {
@@ -80,6 +83,7 @@ pub fn encipher(key: &[u8], w: &[[u8; 16]], start: [u8; 16], text: &mut [u8], su
     ensures { λ r. ⌜ (r ≡ made encipherment sum (enciphered (now (key .entry)) (cipherBy (now (w .entry))) start (length (now (text .entry)) / 16) (now (text .entry)))) × (now (text .exit) ≡ encryptedWhole (cipherBy (now (w .entry))) start (now (text .entry))) ⌝ }
 {
     let blocks = text.len() / 16;
+    let table = sbox::byte_table();
     let shown = work::prepare(key);
     let mut chained = start;
     let mut count: usize = 0;
@@ -87,7 +91,7 @@ pub fn encipher(key: &[u8], w: &[[u8; 16]], start: [u8; 16], text: &mut [u8], su
     while count < blocks {
         let at = 16 * count;
         let plain = octets::block_at(text, at);
-        let step = encipher_block(shown, w, chained, plain, count, after);
+        let step = encipher_block(&table, shown, w, chained, plain, count, after);
         let cipher = step.block;
         octets::copy_at(text, at, &cipher);
         chained = cipher;
@@ -106,6 +110,7 @@ pub fn decipher(key: &[u8], w: &[[u8; 16]], start: [u8; 16], text: &mut [u8], su
     ensures { λ r. ⌜ (r ≡ made decipherment sum (deciphered (now (key .entry)) (invCipherBy (now (w .entry))) (length (now (text .entry)) / 16) (now (text .entry)))) × (now (text .exit) ≡ decryptedWhole (invCipherBy (now (w .entry))) start (now (text .entry))) ⌝ }
 {
     let blocks = text.len() / 16;
+    let table = sbox::inv_byte_table();
     let shown = work::prepare(key);
     let mut previous = start;
     let mut count: usize = 0;
@@ -113,7 +118,7 @@ pub fn decipher(key: &[u8], w: &[[u8; 16]], start: [u8; 16], text: &mut [u8], su
     while count < blocks {
         let at = 16 * count;
         let cipher = octets::block_at(text, at);
-        let step = decipher_block(shown, w, previous, cipher, count, after);
+        let step = decipher_block(&table, shown, w, previous, cipher, count, after);
         let plain = step.block;
         octets::copy_at(text, at, &plain);
         previous = cipher;

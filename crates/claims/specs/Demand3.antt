@@ -15,15 +15,16 @@ abbrev pub shapes : Load → List Call → List Shape
 shapes l xs = map (λ o. shapeOf (o .answer)) (run (cardOf l) xs)
 
 pub record Demand3 (l : Load) : Type 0 where
-  -- "length, status and the five counts equal document 01's formulas of frame, length and reply size"
-  pub formulas : (xs : List Call) → shapes l xs ≡ map (formulasOf (cardOf l .«reply_size»)) xs
+  -- "length, status and the five counts equal document 01's formulas of frame, length and reply size". T-04: L, "which demand 3's formulas take beside
+  -- the reply size"
+  pub formulas : (xs : List Call) → shapes l xs ≡ map (formulasOf (l .given .«key_length») (cardOf l .«reply_size»)) xs
   -- "the work sum is the one document 01 defines": at the place of x, behind the calls xs, it is that of the steps which the load, the session there
   -- and the call give (o stands for what a list of outcomes has past its end)
   pub sums :
       (xs ys : List Call) (x : Call) (o : Outcome)
       → getD (run (cardOf l) (xs ++ (x ∷ ys))) (length xs) o .sum ≡ workSum (stepsOf (cardOf l) (sessionAfter (cardOf l) noSession xs) x)
-  -- "two such lists on two such cards": of another load m, where the cards agree in shill keys and reply size and the lists, place by place, in frame,
-  -- length, fresh bytes and output size. Number, status, counts and length are alike at every place
+  -- "two such lists on two such cards": of another load m, where the cards agree in shill keys and reply size, and by T-04 in L ("cards compared share
+  -- L"), and the lists, place by place, in frame, length, fresh bytes and output size. Number, status, counts and length are alike at every place
   pub alike : (m : Load) → Agree (cardOf l) (cardOf m) → {xs ys : List Call} → AllAlike xs ys → shapes l xs ≡ shapes m ys
   -- and where neither card accepts, the answer bytes and the key handle are too
   pub indistinct :

@@ -1,20 +1,24 @@
--- Every edge of document 01 that is marked P, and every one of T-01 and T-02, holds. Assumes nothing.
+-- Every edge of document 01 that is marked P, and every one of T-01, T-02 and T-04, holds. Assumes nothing.
 use mathlib.Core.Path.{_≡_, refl, sym, subst, ap, ap₂, _∙_}
 use mathlib.Core.Bool.{Bool, true, false, cond}
 use mathlib.Core.List.{List, [], _∷_, _++_, append-assoc, append-nil}
 use Prim.Native.Nat.{ℕ, zero, suc, _+_, _-_, _*_, _/_, _%_, _<_, _≤_}
 use native.Mathlib.Omega.{arith}
-use borrow.Author.Tests.{eq-eqb, ne-eqb, lt-ltb, le-ltb}
+use borrow.Author.Tests.{eq-eqb, ne-eqb, lt-ltb, le-ltb, le-leb}
 use lib.Dec.{eqb, ltb}
 use lib.ListN.{length, getD, take, drop, replicate, length-append, length-map, length-take, length-drop, length-replicate, getD-replicate, List·getD-map}
 use lib.Seq.{getD-drop, getD-take, getD-append-add}
 use Rattle.octets.specs.Lists.{part}
+use Rattle.octets.specs.Same.{same-of}
 use Rattle.octets.specs.Writes.{over-front}
 use Rattle.aes.specs.Aes.{aesUnder}
 use Rattle.cbc.specs.Cbc.{zeros, encrypted}
 use Rattle.padding.specs.Method2.{zeroBytes, padded, rightly, unpadded}
-use Rattle.padding.specs.Laws.{Seen, seen, rightly-seen, seen-none, unpadded-padded, textEnd-le}
+use Rattle.padding.specs.Laws.{Seen, seen, rightly-seen, seen-none, unpadded-padded, unpadded-lt, textEnd-le}
 use Rattle.padding.specs.declared.Unpadded.the-variants.{Text, Malformed}
+use Rattle.key_expansion.specs.KeyLength.{keyLength, length-sixteen}
+use Rattle.plaid_types.specs.Keys as keys
+use Rattle.plaid_types.specs.Keys.{keyLengthOf, str1Length}
 use Rattle.plaid_types.specs.Cards.{withSession, Reply}
 use Rattle.plaid_types.specs.declared.KeySetId.{KeySetId}
 use Rattle.plaid_types.specs.declared.KeySetSlot.{KeySetSlot}
@@ -30,87 +34,76 @@ use Rattle.frame.specs.Framed.{framed-status, framed-data}
 use Rattle.frame.specs.Declines.{noZero, padBytes, verdict}
 use Rattle.list.specs.Ber.{unsigned, fitting, lengthAt, entryAt, head, walked, ended, listed, placeCount}
 use Rattle.list.specs.Laws.{no-FF}
-use Rattle.initial.specs.Initial.{firstSlot, firstPlace, slotOf, acceptsInitial, str1, blockOf, initialReply}
-use Rattle.final_command.specs.Final.{decipheredText, keysHash, modeOf, accepting, acceptsFinal, bodyOf, finalReply}
+use Rattle.initial.specs.Initial.{firstSlot, firstPlace, slotOf, acceptsInitial, str1, blockOf, openedWith, initialReply}
+use Rattle.final_command.specs.Final.{textOf, decipheredText, keysHash, modeOf, accepting, acceptsFinal, bodyOf, finalReply}
 use Rattle.card.specs.Command.{replyTo, verdictOn, outcome, answerBytes}
 use Rattle.card.specs.Lists.{Call, outcomeOf, bytesOf, run, accepted, Shape, shapeOf, initialShape, finalShape, formulas}
 use Rattle.card.specs.Demand3.{Sound, list-formulas}
-use Rattle.reader_seal.specs.Seal.{lcOf as lcFor, finalCommand, sealCommand, sealNumber, sealedOf, sealOutput}
-use Rattle.reader_seal.specs.Laws.{length-sealCommand}
+use Rattle.reader_seal.specs.Seal.{lcOf as lcFor, payloadMost, finalCommand, sealCommand, sealNumber, sealedOf, sealOutput}
+use Rattle.reader_seal.specs.Laws.{length-sealCommand, seal-done, seal-written}
+use Rattle.reader_seal.specs.declared.Sealed.{Sealed}
 use Rattle.session_initial.specs.Held.{Holds, slot-holds, slot-missing}
 use Rattle.plaid.specs.Interface.{loadOf}
 use Rattle.session_final.specs.Reply.{refused-reply}
+use Rattle.session_final.specs.Accepts.{SixConditions, six-conditions}
 use Rattle.claims.specs.Load.{Load, cardOf, recordGiven, bodyGiven}
-use Rattle.claims.specs.Loaded.{is-a-load, sound, set-slot, slot-given, sets-most, mode-slot, record-long, size-given, div-given, key-given, handle-given}
-use Rattle.claims.specs.Loads.{set, mode, given, area, load-of, one-key, two-keys}
+use Rattle.claims.specs.Loaded.{is-a-load, sound, set-slot, slot-given, sets-most, mode-slot, record-long, size-given, div-given, handle-given, length-is, shill-held}
+use Rattle.claims.specs.Loads.{set, mode, given, area, load-of, load-one, one-key, two-keys}
 use Rattle.claims.specs.Reply.{left, named-answer}
 use Rattle.claims.specs.Found.{held-there}
-use Rattle.claims.specs.Edges.{Of, OfAll, Gave, framed, Lent, EachCall, Answered, Refused, FinalRefused, Final, Records, Longest, Size, lengths, Replies, Seals, Good, Bad, edges, All, end, _and_}
+use Rattle.claims.specs.Edges.{Of, OfAll, Gave, framed, Lent, EachCall, Answered, Refused, FinalCounts, FinalRefused, Final, Counts, Shortest, Records, Longest, Size, lengths, Replies, Seals, SealDeclines, Good, Bad, edges, All, end, _and_}
 
 -- a KeySetID by its number
 abbrev idOf : ℕ → KeySetId
 idOf k = record { 0 = k }
 
 -- the load's card with any session
-sound-in : (l : Load) (s : Session) → length (s .rnd1) ≡ 16 → Sound (withSession (cardOf l) s)
-sound-in l s r = let k = sound l in record { sets = k .sets; modes = k .modes; div = k .div; rnd1 = r; size = k .size }
+sound-in : (l : Load) (s : Session) → length (s .rnd1) ≡ 32 → Sound (withSession (cardOf l) s)
+sound-in l s r = let k = sound l in record { sets = k .sets; modes = k .modes; div = k .div; stored = record { sets = k .stored .sets; shill = k .stored .shill; rnd1 = r }; size = k .size }
 
--- loads with the properties of the edges: set 1, with one record or with two
-one-record : (n : ℕ) → loadOf (set 1 ∷ []) (given (mode 7 0 n ∷ [])) (area 0 n) .number ≡ 0 → (l : Load) × ((lengths l ≡ n ∷ []) × Gave l 0 1)
-unfolding set mode given load-of
-one-record n e = (load-of (set 1 ∷ []) (mode 7 0 n ∷ []) 0 n (omega arith) (one-key 1 (omega arith)) e, (refl, record { within = omega arith; id = refl }))
+-- loads with the properties of the edges: set 1, with one record, for keys of k bytes, or with two
+one-record : (k n : ℕ) → keyLength k ≡ true → 0 < n → n ≤ 64 → (l : Load) × ((lengths l ≡ n ∷ []) × Gave l 0 1 × (l .given .«key_length» ≡ k))
+unfolding set mode given load-of load-one
+one-record k n three h m = (load-one k n three h m, (refl, record { within = omega arith; id = refl }, refl))
 
-two-records : (m n : ℕ) → loadOf (set 1 ∷ []) (given (mode 7 0 m ∷ mode 8 m n ∷ [])) (area m n) .number ≡ 0 → (l : Load) × (lengths l ≡ m ∷ n ∷ [])
+load-16 : (l : Load) × ((lengths l ≡ 16 ∷ []) × Gave l 0 1 × (l .given .«key_length» ≡ 16))
+load-16 = one-record 16 16 (length-sixteen refl) (omega arith) (omega arith)
+
+two-records : (m n : ℕ) → loadOf (set 16 1 ∷ []) (given 16 (mode 7 0 m ∷ mode 8 m n ∷ [])) (area m n) .number ≡ 0 → (l : Load) × (lengths l ≡ m ∷ n ∷ [])
 unfolding mode given load-of
-two-records m n e = (load-of (set 1 ∷ []) (mode 7 0 m ∷ mode 8 m n ∷ []) m n (omega arith) (one-key 1 (omega arith)) e, refl)
-
-load-4 : (l : Load) × ((lengths l ≡ 4 ∷ []) × Gave l 0 1)
-unfolding set mode given area loadOf loaded refusal modesRefusal
-load-4 = one-record 4 refl
-
-load-15 : (l : Load) × ((lengths l ≡ 15 ∷ []) × Gave l 0 1)
-unfolding set mode given area loadOf loaded refusal modesRefusal
-load-15 = one-record 15 refl
-
-load-16 : (l : Load) × ((lengths l ≡ 16 ∷ []) × Gave l 0 1)
-unfolding set mode given area loadOf loaded refusal modesRefusal
-load-16 = one-record 16 refl
-
-load-64 : (l : Load) × ((lengths l ≡ 64 ∷ []) × Gave l 0 1)
-unfolding set mode given area loadOf loaded refusal modesRefusal
-load-64 = one-record 64 refl
+two-records m n e = (load-of 16 (set 16 1 ∷ []) (mode 7 0 m ∷ mode 8 m n ∷ []) m n (omega arith) (one-key 16 1 (omega arith)) e, refl)
 
 load-4-16 : (l : Load) × (lengths l ≡ 4 ∷ 16 ∷ [])
-unfolding set mode given area loadOf loaded refusal modesRefusal
+unfolding set mode given area loadOf loaded refusal modesRefusal keyLength
 load-4-16 = two-records 4 16 refl
 
 load-15-64 : (l : Load) × (lengths l ≡ 15 ∷ 64 ∷ [])
-unfolding set mode given area loadOf loaded refusal modesRefusal
+unfolding set mode given area loadOf loaded refusal modesRefusal keyLength
 load-15-64 = two-records 15 64 refl
 
 load-two : (l : Load) × (Gave l 0 2 × Gave l 1 5)
-unfolding set mode given area load-of loadOf loaded refusal modesRefusal
+unfolding set mode given area load-of loadOf loaded refusal modesRefusal keyLength
 load-two = (
-  load-of (set 2 ∷ set 5 ∷ []) (mode 7 0 16 ∷ []) 0 16 (omega arith) (two-keys 2 5 (omega arith) (omega arith)) refl,
+  load-of 16 (set 16 2 ∷ set 16 5 ∷ []) (mode 7 0 16 ∷ []) 0 16 (omega arith) (two-keys 16 2 5 (omega arith) (omega arith)) refl,
   (record { within = omega arith; id = refl }, record { within = omega arith; id = refl }),
 )
 
 -- there are such fresh bytes and outputs
-pub some-lent : Lent (replicate 253 1) 256
-some-lent = record { fresh-long = refl; pads-nonzero = λ i h k e. let q = sym (getD-replicate 253 i 1 0 k) ∙ e in omega arith; room-enough = omega arith }
+pub some-lent : (l : ℕ) → Lent l (replicate 253 1) 256
+some-lent l = record { fresh-long = refl; pads-nonzero = λ i h k e. let q = sym (getD-replicate 253 i 1 0 k) ∙ e in omega arith; room-enough = omega arith }
 
 -- a call is not declined that is lent what it needs and whose frame has no fault
 no-zero : (s : List ℕ) → ((i : ℕ) → i < length s → getD s i 0 ≡ 0 → ⊥) → noZero s ≡ true
 no-zero [] f = refl
 no-zero (b ∷ s) f = rw (ne-eqb b 0 (f 0 (omega arith))) (no-zero s (λ i h. f (suc i) (omega arith)))
 
-passes : (cmd fresh : List ℕ) (room : ℕ) → Lent fresh room → statusOf (length cmd) (frameOf cmd) ≡ 0x9000 → verdictOn cmd fresh room .status ≡ 0x9000
+passes : (l : ℕ) (cmd fresh : List ℕ) (room : ℕ) → Lent l fresh room → statusOf (length cmd) (frameOf cmd) ≡ 0x9000 → verdictOn l cmd fresh room .status ≡ 0x9000
 unfolding verdict padBytes
-passes cmd fresh room t e =
+passes l cmd fresh room t e =
     let n = t .fresh-long in
-    let pad : (i : ℕ) → i < length (drop 50 fresh) → getD (drop 50 fresh) i 0 ≡ 0 → ⊥ =
-    λ i h q. t .pads-nonzero (50 + i) (omega arith) (omega (arith, length-drop 50 fresh)) (sym (getD-drop 50 fresh i 0) ∙ q) in
-    rw (eq-eqb (length fresh) 253 n, no-zero (drop 50 fresh) pad, le-ltb room 256 (t .room-enough)) e
+    let pad : (i : ℕ) → i < length (drop (str1Length l) fresh) → getD (drop (str1Length l) fresh) i 0 ≡ 0 → ⊥ =
+    λ i h q. t .pads-nonzero (str1Length l + i) (omega arith) (omega (arith, length-drop (str1Length l) fresh)) (sym (getD-drop (str1Length l) fresh i 0) ∙ q) in
+    rw (eq-eqb (length fresh) 253 n, no-zero (drop (str1Length l) fresh) pad, le-ltb room 256 (t .room-enough)) e
 
 -- what the frame of a command says
 record Frames (ins : ℕ) (d : List ℕ) : Type 0 where
@@ -121,7 +114,7 @@ frames-any : (ins : ℕ) (d : List ℕ) → knownIns ins ≡ true → 0 < length
 frames-any ins d k h = record { status = framed-status ins (length d) d refl k h; data-is = framed-data ins (length d) d refl }
 
 -- such a call on a load's card: it hands back what the reply says, and its counts are the formulas'
-module _ (l : Load) (ins : ℕ) (d : List ℕ) (f : Frames ins d) (s : Session) (fresh : List ℕ) (room : ℕ) (lr : length (s .rnd1) ≡ 16) (t : Lent fresh room) where
+module _ (l : Load) (ins : ℕ) (d : List ℕ) (f : Frames ins d) (s : Session) (fresh : List ℕ) (room : ℕ) (lr : length (s .rnd1) ≡ 32) (t : Lent (l .given .«key_length») fresh room) where
   abbrev c : Card
   c = withSession (cardOf l) s
 
@@ -131,8 +124,10 @@ module _ (l : Load) (ins : ℕ) (d : List ℕ) (f : Frames ins d) (s : Session) 
   reply : Reply
   reply = cond (eqb ins initialIns) (initialReply c d fresh) (finalReply c d fresh)
 
-  taken : eqb (verdictOn (framed ins d) fresh room .status) 0x9000 ≡ true
-  taken = eq-eqb (verdictOn (framed ins d) fresh room .status) 0x9000 (passes (framed ins d) fresh room t (f .status))
+  taken : eqb (verdictOn (keyLengthOf c) (framed ins d) fresh room .status) 0x9000 ≡ true
+  taken =
+      eq-eqb (verdictOn (keyLengthOf c) (framed ins d) fresh room .status) 0x9000
+      (ap (λ (n : ℕ). verdictOn n (framed ins d) fresh room .status) (length-is l) ∙ passes (l .given .«key_length») (framed ins d) fresh room t (f .status))
 
   ins-is : insOf (frameOf (framed ins d)) ≡ ins
   ins-is = frame-byte (framed ins d) 1 (omega arith)
@@ -156,7 +151,7 @@ module _ (l : Load) (ins : ℕ) (d : List ℕ) (f : Frames ins d) (s : Session) 
   unfolding answerBytes
   call-bytes = rw taken (ap (λ (r : Reply). r .bytes) reply-is)
 
-  call-shape : shapeOf (outcomeOf c x .answer) ≡ cond (eqb ins initialIns) (initialShape (length d)) (finalShape (c .«reply_size») (length d))
+  call-shape : shapeOf (outcomeOf c x .answer) ≡ cond (eqb ins initialIns) (initialShape (length d)) (finalShape (keyLengthOf c) (c .«reply_size») (length d))
   unfolding run formulas
   call-shape = ap (λ (y : List Shape). getD y 0 (shapeOf (outcomeOf c x .answer))) (list-formulas (x ∷ []) c (sound-in l s lr)) ∙ rw (taken, ins-is, lc-is)
 
@@ -165,12 +160,12 @@ module _ (l : Load) (ins : ℕ) (d : List ℕ) (f : Frames ins d) (s : Session) 
   call-accepted = rw (taken, ins-is, f .data-is)
 
 -- the block of an initial answer
-block-is : (fresh text : List ℕ) → blockOf fresh text ≡ 0 ∷ 2 ∷ (drop 50 fresh ++ (0 ∷ text))
+block-is : (l : ℕ) (fresh text : List ℕ) → blockOf l fresh text ≡ 0 ∷ 2 ∷ (drop (str1Length l) fresh ++ (0 ∷ text))
 unfolding blockOf padBytes
-block-is fresh text = ap (λ (y : List ℕ). 0 ∷ 2 ∷ y) (append-assoc (drop 50 fresh) (0 ∷ []) text)
+block-is l fresh text = ap (λ (y : List ℕ). 0 ∷ 2 ∷ y) (append-assoc (drop (str1Length l) fresh) (0 ∷ []) text)
 
 -- an initial command
-module _ (l : Load) (d : List ℕ) (f : Frames 0x87 d) (s : Session) (fresh : List ℕ) (room : ℕ) (lr : length (s .rnd1) ≡ 16) (t : Lent fresh room) where
+module _ (l : Load) (d : List ℕ) (f : Frames 0x87 d) (s : Session) (fresh : List ℕ) (room : ℕ) (lr : length (s .rnd1) ≡ 32) (t : Lent (l .given .«key_length») fresh room) where
   initial-shape : shapeOf (outcomeOf (c l 0x87 d f s fresh room lr t) (x l 0x87 d f s fresh room lr t) .answer) ≡ initialShape (length d)
   initial-shape = call-shape l 0x87 d f s fresh room lr t
 
@@ -192,8 +187,8 @@ module _ (l : Load) (d : List ℕ) (f : Frames 0x87 d) (s : Session) (fresh : Li
         handle = call-handle l 0x87 d f s fresh room lr t ∙ rw (b, e) (ap (λ (y : KeySetSlot). y .handle) q);
         card =
             call-card l 0x87 d f s fresh room lr t
-            ∙ rw (b, e) (ap (λ (j : KeySetId). withSession (cardOf l) (record { opened = true; id = j; rnd1 = part fresh 0 16 })) (h .id));
-        block = call-bytes l 0x87 d f s fresh room lr t ∙ rw (b, e, h .id, div-given l) (block-is fresh (str1 (idOf k) (l .given .«div_data») (part fresh 0 16)));
+            ∙ rw (b, e, length-is l) (ap (λ (j : KeySetId). withSession (cardOf l) (openedWith j (part fresh 0 (l .given .«key_length»)))) (h .id));
+        block = call-bytes l 0x87 d f s fresh room lr t ∙ rw (b, e, length-is l, h .id, div-given l) (block-is (l .given .«key_length») fresh (str1 (idOf k) (l .given .«div_data») (part fresh 0 (l .given .«key_length»))));
       }
 
   refused : acceptsInitial (withSession (cardOf l) s) d ≡ false →
@@ -206,7 +201,7 @@ module _ (l : Load) (d : List ℕ) (f : Frames 0x87 d) (s : Session) (fresh : Li
         comparisons = ap (λ (y : Shape). y .comparisons) initial-shape;
         handle = call-handle l 0x87 d f s fresh room lr t ∙ rw e (handle-given l);
         card = call-card l 0x87 d f s fresh room lr t ∙ rw e;
-        block = call-bytes l 0x87 d f s fresh room lr t ∙ rw e (block-is fresh (part fresh 0 50));
+        block = call-bytes l 0x87 d f s fresh room lr t ∙ rw (e, length-is l) (block-is (l .given .«key_length») fresh (part fresh 0 (str1Length (l .given .«key_length»))));
       }
 
 -- "set k held": the look for k finds a slot that holds it
@@ -349,8 +344,8 @@ module _ (l : Load) (n : ℕ) (r : Longest l n) where
   size-is : cardOf l .«reply_size» ≡ replySize n
   size-is = omega (arith, needed, size-given l, size-below (take (l .given .«mode_count») (l .given .modes)) (replySize n) enough-for)
 
-size-edge : (n : ℕ) (l : Load) → lengths l ≡ n ∷ [] → Size n (replySize n)
-size-edge n l e = ((l, longest-one l n e), λ k p. size-is k n p)
+size-edge : (n : ℕ) → 0 < n → n ≤ 64 → Size n (replySize n)
+size-edge n h m = let w = one-record 16 n (length-sixteen refl) h m in ((w .0, longest-one (w .0) n (w .1 .0)), λ l p. size-is l n p)
 
 -- T-01: the body of a mode's record of n bytes, on a card whose B is b
 module _ (l : Load) (i n b : ℕ) (r : Records l i n) (s : cardOf l .«reply_size» ≡ b) where
@@ -397,19 +392,27 @@ long-edge = (
 )
 
 alone-edge : Of (λ l. lengths l ≡ 4 ∷ []) (λ l. Replies l 0 2 4 (recordGiven l 0))
-alone-edge = ((load-4 .0, load-4 .1 .0), λ l e. let k = longest-one l 4 e in without l 0 4 2 (records-at l 0 4 (omega (arith, ap length e)) (ap (λ (s : List ℕ). getD s 0 0) e)) (size-is l 4 k) refl)
+alone-edge = (let w = one-record 16 4 (length-sixteen refl) (omega arith) (omega arith) in (w .0, w .1 .0), λ l e. let k = longest-one l 4 e in without l 0 4 2 (records-at l 0 4 (omega (arith, ap length e)) (ap (λ (s : List ℕ). getD s 0 0) e)) (size-is l 4 k) refl)
 
 -- "payload p: Lc lc"
-seal-edge : (p : ℕ) → p ≤ 205 → Seals p (lcFor p)
-unfolding sealedOf sealOutput sealNumber sealCommand finalCommand
-seal-edge p h fa div rnd1 rnd2 mode payload out e room =
-    let m : ltb 205 (length payload) ≡ false = le-ltb 205 (length payload) (omega arith) in
-    let o : ltb (length out) (lcFor (length payload) + 6) ≡ false = le-ltb (length out) (lcFor (length payload) + 6) (omega arith) in
+seal-edge : (l p : ℕ) → keyLength l ≡ true → p ≤ payloadMost l → Seals l p (lcFor l p)
+unfolding sealNumber sealCommand finalCommand
+seal-edge l p three h fa div rnd1 rnd2 mode payload out f a b e room =
+    let m : ltb (payloadMost l) (length payload) ≡ false = le-ltb (payloadMost l) (length payload) (omega arith) in
+    let o : ltb (length out) (lcFor l (length payload) + 6) ≡ false = le-ltb (length out) (lcFor l (length payload) + 6) (omega arith) in
+    let z : sealNumber l fa rnd1 rnd2 (length payload) (length out) ≡ 0 = rw (three, eq-eqb (fa .length) l f, eq-eqb (rnd1 .length) l a, eq-eqb (rnd2 .length) l b, m, o) in
+    let q = seal-done l fa div rnd1 rnd2 mode payload out z in
     record {
-      number = rw (m, o);
-      total = rw (m, o) (length-sealCommand fa div rnd1 rnd2 mode payload ∙ omega arith);
-      lc-byte = rw (m, o, over-front) (ap lcFor e);
+      number = ap (λ (s : Sealed). s .number) q;
+      total = ap (λ (s : Sealed). s .length) q ∙ length-sealCommand l (keys.bytesOf fa) div (keys.bytesOf rnd1) (keys.bytesOf rnd2) mode payload ∙ ap (λ (n : ℕ). lcFor l n + 6) e;
+      lc-byte = rw (seal-written l fa div rnd1 rnd2 mode payload out z, over-front) (ap (lcFor l) e);
     }
+
+seal-declines-edge : (l p : ℕ) → keyLength l ≡ true → payloadMost l < p → SealDeclines l p
+unfolding sealNumber sealedOf sealOutput
+seal-declines-edge l p three h fa div rnd1 rnd2 mode payload out f a b e =
+    let m : ltb (payloadMost l) (length payload) ≡ true = lt-ltb (payloadMost l) (length payload) (omega arith) in
+    rw (three, eq-eqb (fa .length) l f, eq-eqb (rnd1 .length) l a, eq-eqb (rnd2 .length) l b, m) (refl, refl)
 
 -- "last block 80 and fifteen 00: good"
 good-edge : Good (0x80 ∷ replicate 15 0)
@@ -443,47 +446,110 @@ bad-edge s w =
     let u : unpadded (s ++ replicate 16 0) ≡ Malformed = seen-none (s ++ replicate 16 0) (bad-seen s) in
     (not-rightly (s ++ replicate 16 0) (rightly (s ++ replicate 16 0)) refl u, u)
 
--- a final command whose Lc is no multiple of 16 is not accepted
-not-accepting : (opened : Bool) (lc : ℕ) (s hash : List ℕ) (mode : ℕ) → (lc % 16 ≡ 0 → ⊥) → accepting opened lc s hash mode ≡ false
+-- what meets the six conditions is accepted
+accepting-so : (l : ℕ) (opened : Bool) (lc : ℕ) (s hash : List ℕ) (mode : ℕ) → SixConditions l opened lc s hash mode → accepting l opened lc s hash mode ≡ true
 unfolding accepting
-not-accepting true lc s hash mode h = rw (ne-eqb (lc % 16) 0 h)
-not-accepting false lc s hash mode h = refl
+accepting-so l opened lc s hash mode k =
+    rw (k .in-session, eq-eqb (lc % 16) 0 (k .whole), k .right, le-leb _ _ (k .long), same-of _ _ (k .last), lt-ltb mode 16 (k .below))
 
-not-accepted : (c : Card) (d : List ℕ) → (length d % 16 ≡ 0 → ⊥) → acceptsFinal c d ≡ false
-unfolding acceptsFinal
-not-accepted c d h = not-accepting (c .session .opened) (length d) (decipheredText c d) (keysHash c d) (modeOf c d) h
+module _ (c : Card) (d : List ℕ) where
+  abbrev Six : Type 0
+  Six = SixConditions (keyLengthOf c) (c .session .opened) (length d) (decipheredText c d) (keysHash c d) (modeOf c d)
 
-final-refused : (l : Load) → cardOf l .«reply_size» ≡ 3 → (d : List ℕ) → 0 < length d → (length d % 16 ≡ 0 → ⊥) → EachCall l (framed 0x86 d) (FinalRefused l (length d / 16))
-unfolding reply finalReply
-final-refused l b d h o s fresh room lr t =
-    let f = frames-any 0x86 d refl h in
-    let e : shapeOf (outcomeOf (withSession (cardOf l) s) (record { command = framed 0x86 d; fresh = fresh; room = room }) .answer) ≡ finalShape 3 (length d) =
-    call-shape l 0x86 d f s fresh room lr t ∙ rw b in
-    let r = not-accepted (withSession (cardOf l) s) d o in
-    record {
-      number = ap (λ (y : Shape). y .number) e;
-      status = ap (λ (y : Shape). y .status) e;
-      decipherments = ap (λ (y : Shape). y .decipherments) e;
-      encipherments = ap (λ (y : Shape). y .encipherments) e;
-      size = ap (λ (y : Shape). y .size) e;
-      handle = call-handle l 0x86 d f s fresh room lr t;
-      card = call-card l 0x86 d f s fresh room lr t;
-      refused = call-accepted l 0x86 d f s fresh room lr t ∙ r;
-      reply =
-          call-bytes l 0x86 d f s fresh room lr t
-          ∙ refused-reply (withSession (cardOf l) s) d fresh (stocked-session (cardOf l) s (is-a-load l .stocked)) r (t .fresh-long)
-          ∙ ap (λ (n : ℕ). encrypted (aesUnder (cardOf l .«shill_key»)) zeros n (part fresh 0 (16 * n))) b
-          ∙ ap (λ (k : List ℕ). encrypted (aesUnder k) zeros 3 (part fresh 0 48)) (key-given l);
-    }
+  is-accepted : Six → acceptsFinal c d ≡ true
+  unfolding acceptsFinal
+  is-accepted k = accepting-so (keyLengthOf c) (c .session .opened) (length d) (decipheredText c d) (keysHash c d) (modeOf c d) k
 
-final-edge : (lc : ℕ) → 0 < lc → (lc % 16 ≡ 0 → ⊥) → Final lc (lc / 16)
-final-edge lc h o = (
-  (load-16 .0, size-is (load-16 .0) 16 (longest-one (load-16 .0) 16 (load-16 .1 .0))),
-  λ l b d e s fresh room lr t. rw (ap (λ (n : ℕ). n / 16) e) at (final-refused l b d (omega arith) (λ z. o (ap (λ (n : ℕ). n % 16) (sym e) ∙ z)) s fresh room lr t),
+  -- and what does not is not
+  not-accepted : (Six → ⊥) → acceptsFinal c d ≡ false
+  not-accepted f = by (acceptsFinal c d) refl
+    where
+      by : (t : Bool) → acceptsFinal c d ≡ t → t ≡ false
+      by true e = absurd (f (six-conditions c d e))
+      by false e = refl
+
+  -- a text comes from whole blocks
+  text-data : (n : ℕ) → unpadded (decipheredText c d) ≡ Text n → 0 < length d
+  unfolding decipheredText part
+  text-data n u = omega (arith, unpadded-lt (decipheredText c d) n u, length-take (16 * (length d / 16)) (drop 0 (textOf c d)))
+
+-- a final command on a card with keys of k bytes and B 3: its counts, whatever its verdict
+module _ (k : ℕ) (l : Load) (w : l .given .«key_length» ≡ k) (b : cardOf l .«reply_size» ≡ 3) (d : List ℕ) (h : 0 < length d) where
+  final-counts : EachCall l (framed 0x86 d) (FinalCounts (length d / 16) (3 + cond (ltb 16 k) 2 1) (cond (eqb k 32) 2 1))
+  final-counts s fresh room lr t =
+      let e : shapeOf (outcomeOf (withSession (cardOf l) s) (record { command = framed 0x86 d; fresh = fresh; room = room }) .answer) ≡ finalShape k 3 (length d) =
+      call-shape l 0x86 d (frames-any 0x86 d refl h) s fresh room lr t ∙ ap₂ (λ (n m : ℕ). finalShape n m (length d)) (length-is l ∙ w) b in
+      record {
+        number = ap (λ (y : Shape). y .number) e;
+        status = ap (λ (y : Shape). y .status) e;
+        comparisons = ap (λ (y : Shape). y .comparisons) e;
+        decipherments = ap (λ (y : Shape). y .decipherments) e;
+        encipherments = ap (λ (y : Shape). y .encipherments) e;
+        expansions = ap (λ (y : Shape). y .expansions) e;
+        «hash_blocks» = ap (λ (y : Shape). y .hashBlocks) e;
+        size = ap (λ (y : Shape). y .size) e;
+      }
+
+  final-refused : (length d % 16 ≡ 0 → ⊥) → EachCall l (framed 0x86 d) (FinalRefused l (length d / 16) (3 + cond (ltb 16 k) 2 1) (cond (eqb k 32) 2 1))
+  unfolding reply finalReply
+  final-refused o s fresh room lr t =
+      let f = frames-any 0x86 d refl h in
+      let r = not-accepted (withSession (cardOf l) s) d (λ z. o (z .whole)) in
+      record {
+        counts = final-counts s fresh room lr t;
+        handle = call-handle l 0x86 d f s fresh room lr t;
+        card = call-card l 0x86 d f s fresh room lr t;
+        refused = call-accepted l 0x86 d f s fresh room lr t ∙ r;
+        reply =
+            call-bytes l 0x86 d f s fresh room lr t
+            ∙ refused-reply (withSession (cardOf l) s) d fresh (stocked-session (cardOf l) s (is-a-load l .stocked)) r (t .fresh-long)
+            ∙ ap (λ (n : ℕ). encrypted (aesUnder (keys.held (keyLengthOf (cardOf l)) (cardOf l .«shill_key»))) zeros n (part fresh 0 (16 * n))) b
+            ∙ ap (λ (key : List ℕ). encrypted (aesUnder key) zeros 3 (part fresh 0 48)) (shill-held l);
+      }
+
+-- there is such a card
+three-blocks : (k : ℕ) → keyLength k ≡ true → (l : Load) × ((l .given .«key_length» ≡ k) × (cardOf l .«reply_size» ≡ 3))
+three-blocks k three = let w = one-record k 16 three (omega arith) (omega arith) in (w .0, (w .1 .2, size-is (w .0) 16 (longest-one (w .0) 16 (w .1 .0))))
+
+final-edge : (k lc : ℕ) → keyLength k ≡ true → 0 < lc → (lc % 16 ≡ 0 → ⊥) → Final k lc (lc / 16) (3 + cond (ltb 16 k) 2 1) (cond (eqb k 32) 2 1)
+final-edge k lc three h o = (
+  three-blocks k three,
+  λ l b d e s fresh room lr t. rw (ap (λ (n : ℕ). n / 16) e) at (final-refused k l (b .0) (b .1) d (omega arith) (λ z. o (ap (λ (n : ℕ). n % 16) (sym e) ∙ z)) s fresh room lr t),
+)
+
+counts-edge : (k lc : ℕ) → keyLength k ≡ true → 0 < lc → Counts k lc (lc / 16) (3 + cond (ltb 16 k) 2 1) (cond (eqb k 32) 2 1)
+counts-edge k lc three h = (
+  three-blocks k three,
+  λ l b d e s fresh room lr t. rw (ap (λ (n : ℕ). n / 16) e) at (final-counts k l (b .0) (b .1) d (omega arith) s fresh room lr t),
+)
+
+-- "the shortest text has 2 + 2L bytes"
+shortest-edge : (k : ℕ) → keyLength k ≡ true → Shortest k (2 + 2 * k)
+shortest-edge k three = (
+  (let w = three-blocks k three in (w .0, w .1 .0)),
+  λ l w d s fresh room lr t. let c : Card = withSession (cardOf l) s in
+      let n : keyLengthOf c ≡ k = length-is l ∙ w in
+      let r : (m : ℕ) → unpadded (decipheredText c d) ≡ Text m → accepted c (record { command = framed 0x86 d; fresh = fresh; room = room }) ≡ acceptsFinal c d =
+      λ m u. call-accepted l 0x86 d (frames-any 0x86 d refl (text-data c d m u)) s fresh room lr t in
+      record {
+        fewer = λ m u h. r m u ∙ not-accepted c d (λ z. omega (arith, z .long, seen (decipheredText c d) m u .ends));
+        enough =
+            λ u o a e m. let v = seen (decipheredText c d) (2 + 2 * k) u in
+            r (2 + 2 * k) u
+            ∙ is-accepted c d
+            (record {
+              in-session = o;
+              whole = a;
+              right = rightly-seen (decipheredText c d) (2 + 2 * k) v;
+              long = omega (arith, v .ends);
+              last = ap₂ (λ (i j : ℕ). part (decipheredText c d) (i - j) j) (ap (λ (i : ℕ). i - 1) (v .ends) ∙ omega arith) n ∙ e;
+              below = m;
+            });
+      },
 )
 
 pub all-edges : All edges
-unfolding edges listed head walked ended entryAt lengthAt fitting unsigned part
+unfolding edges listed head walked ended entryAt lengthAt fitting unsigned part keyLength
 all-edges =
     one-edge (0x30 ∷ 4 ∷ 4 ∷ 2 ∷ 0 ∷ 1 ∷ []) (record { formed = refl; next = 6; entry = refl; long = omega arith }) and
     five-edge (0x30 ∷ 8 ∷ 4 ∷ 2 ∷ 0 ∷ 5 ∷ 4 ∷ 2 ∷ 0 ∷ 2 ∷ []) (record { formed = refl; next = 6; entry = refl; long = omega arith }) and
@@ -491,16 +557,16 @@ all-edges =
     ill-edge (0x30 ∷ 4 ∷ 4 ∷ 2 ∷ 0 ∷ 1 ∷ 0 ∷ []) (omega arith) refl and
     ill-edge (0x30 ∷ 3 ∷ 4 ∷ 1 ∷ 1 ∷ []) (omega arith) refl and
     one-edge (0x30 ∷ 0x81 ∷ 4 ∷ 4 ∷ 2 ∷ 0 ∷ 1 ∷ []) (record { formed = refl; next = 7; entry = refl; long = omega arith }) and
-    size-edge 15 (load-15 .0) (load-15 .1 .0) and
-    size-edge 16 (load-16 .0) (load-16 .1 .0) and
-    size-edge 64 (load-64 .0) (load-64 .1 .0) and
-    seal-edge 13 (omega arith) and
-    seal-edge 14 (omega arith) and
-    seal-edge 205 (omega arith) and
+    size-edge 15 (omega arith) (omega arith) and
+    size-edge 16 (omega arith) (omega arith) and
+    size-edge 64 (omega arith) (omega arith) and
+    seal-edge 16 13 refl (omega arith) and
+    seal-edge 16 14 refl (omega arith) and
+    seal-edge 16 205 refl (omega arith) and
     good-edge and
     bad-edge and
-    final-edge 255 (omega arith) (λ z. omega arith) and
-    final-edge 1 (omega arith) (λ z. omega arith) and
+    final-edge 16 255 refl (omega arith) (λ z. omega arith) and
+    final-edge 16 1 refl (omega arith) (λ z. omega arith) and
     both-edge and
     long-edge and
     alone-edge and
@@ -510,4 +576,25 @@ all-edges =
     one-edge (0x30 ∷ 0x84 ∷ 0 ∷ 0 ∷ 0 ∷ 4 ∷ 4 ∷ 2 ∷ 0 ∷ 1 ∷ []) (record { formed = refl; next = 10; entry = refl; long = omega arith }) and
     one-edge (0x30 ∷ 5 ∷ 4 ∷ 0x81 ∷ 2 ∷ 0 ∷ 1 ∷ []) (record { formed = refl; next = 7; entry = refl; long = omega arith }) and
     ff-edge and
+    seal-edge 24 189 refl (omega arith) and
+    seal-edge 32 173 refl (omega arith) and
+    seal-declines-edge 16 206 refl (omega arith) and
+    seal-declines-edge 24 190 refl (omega arith) and
+    seal-declines-edge 32 174 refl (omega arith) and
+    shortest-edge 16 refl and
+    shortest-edge 24 refl and
+    shortest-edge 32 refl and
+    seal-edge 16 0 refl (omega arith) and
+    seal-edge 24 0 refl (omega arith) and
+    seal-edge 32 0 refl (omega arith) and
+    final-edge 24 255 refl (omega arith) (λ z. omega arith) and
+    final-edge 24 1 refl (omega arith) (λ z. omega arith) and
+    final-edge 32 255 refl (omega arith) (λ z. omega arith) and
+    final-edge 32 1 refl (omega arith) (λ z. omega arith) and
+    counts-edge 16 48 refl (omega arith) and
+    counts-edge 16 240 refl (omega arith) and
+    counts-edge 24 64 refl (omega arith) and
+    counts-edge 24 240 refl (omega arith) and
+    counts-edge 32 80 refl (omega arith) and
+    counts-edge 32 240 refl (omega arith) and
     end

@@ -1,5 +1,5 @@
 -- The first listed set that a card holds and the slot of a mode, by what the load was given; the commands that List and Seal wrote. Assumes nothing.
-use mathlib.Core.Path.{_≡_, refl, sym, ap, _∙_}
+use mathlib.Core.Path.{_≡_, refl, sym, ap, ap₂, _∙_}
 use mathlib.Core.Bool.{Bool, true, false, cond, _||_, true≢false}
 use mathlib.Core.List.{List, [], _∷_}
 use Prim.Native.Nat.{ℕ, zero, suc, _+_, _<_, _≤_}
@@ -11,6 +11,8 @@ use borrow.Author.Tests.{eqb-true, eq-eqb, ltb-true, ltb-false}
 use Rattle.octets.specs.Lists.{part}
 use Rattle.steps.specs.Made.{setMatched, modeMatched}
 use Rattle.plaid_types.specs.Cards.{noSet, noMode}
+use Rattle.plaid_types.specs.Keys.{bytesOf, valueOf}
+use Rattle.plaid_types.specs.declared.Value.{Value}
 use Rattle.plaid_types.specs.declared.KeySetId.{KeySetId}
 use Rattle.plaid_types.specs.declared.OpModeId.{OpModeId}
 use Rattle.plaid_types.specs.declared.KeySetSlot.{KeySetSlot}
@@ -23,7 +25,8 @@ use Rattle.final_command.specs.Final.{firstMode}
 use Rattle.reader_list.specs.List.{given, listCommand, listNumber, listed, listOutput}
 use Rattle.reader_list.specs.declared.Written.{Written}
 use Rattle.reader_open.specs.Open.{noId}
-use Rattle.reader_seal.specs.Seal.{keysHashOf, sealCommand, sealNumber, sealDeclined, sealedOf, sealOutput}
+use Rattle.reader_seal.specs.Seal.{keysHashOf, sealedCommand, sealNumber, sealedOf, sealOutput}
+use Rattle.reader_seal.specs.Laws.{Sealable, sealable, seal-number, seal-done, seal-written}
 use Rattle.reader_seal.specs.declared.Sealed.{Sealed}
 use Rattle.session_initial.specs.Held.{heldIn, held, firstOf, Holds, slot-holds, IsFirst, first-is}
 use Rattle.session_final.specs.Buffer.{over-part}
@@ -125,26 +128,18 @@ module _ (ids : List KeySetId) (n : ℕ) (out : List ℕ) (z : listed ids n (len
   list-sent = rw (eq-eqb (listNumber ids n (length out)) 0 list-number) (over-part out (listCommand (given ids n)) (length (listCommand (given ids n))) refl)
 
 -- Seal's command, in its output, and KeysHash
-seal-zero : (n : ℕ) (s : Sealed) (t : Bool) → eqb n 0 ≡ t → cond {A = Sealed} t s (sealDeclined n) .number ≡ 0 → n ≡ 0
-seal-zero n s true e z = eqb-true n 0 e
-seal-zero n s false e z = z
+module _ (l : ℕ) (fa : Value) (div : List ℕ) (r1 r2 : Value) (mode : OpModeId) (payload out : List ℕ) (z : sealedOf l fa div r1 r2 mode payload (length out) .number ≡ 0) where
+  none : sealNumber l fa r1 r2 (length payload) (length out) ≡ 0
+  none = sym (seal-number l fa div r1 r2 mode payload (length out)) ∙ z
 
-module _ (fa div r1 r2 : List ℕ) (mode : OpModeId) (payload out : List ℕ) (z : sealedOf fa div r1 r2 mode payload (length out) .number ≡ 0) where
-  seal-number : sealNumber (length payload) (length out) ≡ 0
-  unfolding sealedOf
-  seal-number =
-      seal-zero (sealNumber (length payload) (length out)) (record { number = 0; length = length (sealCommand fa div r1 r2 mode payload); «keys_hash» = keysHashOf r1 r2 })
-      (eqb (sealNumber (length payload) (length out)) 0) refl z
+  pub seal-seen : Sealable l fa r1 r2 (length payload) (length out)
+  seal-seen = sealable l fa r1 r2 (length payload) (length out) none
 
-  seal-made : sealedOf fa div r1 r2 mode payload (length out) ≡ record { number = 0; length = length (sealCommand fa div r1 r2 mode payload); «keys_hash» = keysHashOf r1 r2 }
-  unfolding sealedOf
-  seal-made = rw (eq-eqb (sealNumber (length payload) (length out)) 0 seal-number)
+  pub seal-hash : sealedOf l fa div r1 r2 mode payload (length out) .«keys_hash» ≡ valueOf (keysHashOf l (bytesOf r1) (bytesOf r2))
+  seal-hash = ap (λ (s : Sealed). s .«keys_hash») (seal-done l fa div r1 r2 mode payload out none)
 
-  pub seal-hash : sealedOf fa div r1 r2 mode payload (length out) .«keys_hash» ≡ keysHashOf r1 r2
-  seal-hash = ap (λ (s : Sealed). s .«keys_hash») seal-made
-
-  pub seal-sent : part (sealOutput fa div r1 r2 mode payload out) 0 (sealedOf fa div r1 r2 mode payload (length out) .length) ≡ sealCommand fa div r1 r2 mode payload
-  unfolding sealOutput
+  pub seal-sent : part (sealOutput l fa div r1 r2 mode payload out) 0 (sealedOf l fa div r1 r2 mode payload (length out) .length) ≡ sealedCommand l fa div r1 r2 mode payload
   seal-sent =
-      ap (λ (s : Sealed). part (sealOutput fa div r1 r2 mode payload out) 0 (s .length)) seal-made
-      ∙ rw (eq-eqb (sealNumber (length payload) (length out)) 0 seal-number) (over-part out (sealCommand fa div r1 r2 mode payload) (length (sealCommand fa div r1 r2 mode payload)) refl)
+      let c : List ℕ = sealedCommand l fa div r1 r2 mode payload in
+      ap₂ (λ (o : List ℕ) (s : Sealed). part o 0 (s .length)) (seal-written l fa div r1 r2 mode payload out none) (seal-done l fa div r1 r2 mode payload out none)
+      ∙ over-part out c (length c) refl

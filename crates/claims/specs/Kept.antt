@@ -3,6 +3,8 @@ use mathlib.Core.Path.{_≡_, refl, sym, ap, _∙_, subst}
 use mathlib.Core.Bool.{true}
 use mathlib.Core.List.{List}
 use lib.ListN.{length}
+use Rattle.plaid_types.specs.Keys as keys
+use Rattle.plaid_types.specs.Keys.{keyLengthOf}
 use Rattle.plaid_types.specs.Cards.{noSession, withSession}
 use Rattle.plaid_types.specs.declared.Session.{Session}
 use Rattle.plaid_types.specs.declared.Card.{Card}
@@ -18,12 +20,12 @@ pub record Kept (l : Load) (c : Card) : Type 0 where
   -- all that the load made: "a card keeps only this state", the session, beside it
   pub same : c ≡ withSession (cardOf l) (c .session)
   pub stocked : Stocked c
-  -- RND1 has its sixteen bytes
-  pub rnd1 : length (c .session .rnd1) ≡ 16
+  -- 32 bytes hold RND1
+  pub rnd1 : length (c .session .rnd1) ≡ 32
   -- an open session's KeySetID is held
   pub held : c .session .opened ≡ true → HeldIn c (c .session)
   -- so its FAKey is that of the slot that holds it, and what stands in for a set that is not held is never used
-  pub key : (o : c .session .opened ≡ true) → faKeyOf c ≡ setAt c (held o .slot) .«fa_key»
+  pub key : (o : c .session .opened ≡ true) → faKeyOf c ≡ keys.held (keyLengthOf c) (setAt c (held o .slot) .«fa_key»)
 
 module _ (l : Load) (xs : List Call) where
   s : Session

@@ -5,6 +5,7 @@ use Prim.Native.Nat.{ℕ, _<_}
 use lib.ListN.{length, getD}
 use Rattle.octets.specs.Bytes.{Bytes, Block}
 use Rattle.octets.specs.Lists.{part}
+use Rattle.plaid_types.specs.declared.Value.{Value}
 use Rattle.plaid_types.specs.declared.KeySet.{KeySet}
 use Rattle.plaid_types.specs.declared.Card.{Card}
 use Rattle.load.specs.Load.{pastSet, pastMode}
@@ -12,12 +13,17 @@ use Rattle.final_command.specs.Final.{bodyOf}
 use Rattle.plaid.specs.Interface.{loadOf}
 use Rattle.plaid.specs.declared.Given.{Given}
 
--- what the types of its arguments say: an array of sixteen modes, keys and DivData of sixteen bytes, and an area of bytes
+-- what the type of a key, RND or KeysHash says (T-04): an array of 32 bytes
+pub record TypedValue (v : Value) : Type 0 where
+  pub long : length (v .bytes) ≡ 32
+  pub byte : Bytes (v .bytes)
+
+-- what the types of its arguments say: an array of sixteen modes, DivData of sixteen bytes, keys, and an area of bytes
 pub record Typed (sets : List KeySet) (given : Given) (area : List ℕ) : Type 0 where
   pub modes : length (given .modes) ≡ 16
   pub div : Block (given .«div_data»)
-  pub key : Block (given .«shill_key»)
-  pub keys : (i : ℕ) → i < length sets → Block (getD sets i pastSet .«fa_key»)
+  pub key : TypedValue (given .«shill_key»)
+  pub keys : (i : ℕ) → i < length sets → TypedValue (getD sets i pastSet .«fa_key»)
   pub area-bytes : Bytes area
 
 -- "a successful load", number 0: "A load gives 1 to 8 key sets .., 1 to 16 modes .., DivData .., a shill AES key and a shill RSA handle", and a record

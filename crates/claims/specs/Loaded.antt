@@ -1,5 +1,5 @@
 -- What a successful load made: its card in terms of what was given, and what every list of calls keeps true of it. Assumes nothing.
-use mathlib.Core.Path.{_≡_, sym, ap, _∙_}
+use mathlib.Core.Path.{_≡_, sym, ap, ap₂, _∙_}
 use mathlib.Core.Bool.{true, false, _||_}
 use mathlib.Core.List.{List}
 use Prim.Native.Nat.{ℕ, _+_, _-_, _<_, _≤_}
@@ -10,18 +10,22 @@ use lib.ListN.{length, getD, take, drop, replicate, length-drop}
 use lib.Seq.{take-length, take-append-le, drop-append-le, getD-take, length-take-le}
 use borrow.Author.Tests.{ltb-false}
 use Rattle.octets.specs.Bytes.{Bytes}
-use Rattle.octets.specs.ByteLists.{append-bytes, zeros-bytes}
+use Rattle.octets.specs.ByteLists.{append-bytes, zeros-bytes, part-bytes}
 use Rattle.octets.specs.Lists.{part, length-part}
+use Rattle.key_expansion.specs.KeyLength.{keyLength}
+use Rattle.plaid_types.specs.Keys.{keyLengthOf, wide, held, bytesOf}
+use Rattle.plaid_types.specs.declared.Value.{Value}
 use Rattle.plaid_types.specs.declared.KeySet.{KeySet}
+use Rattle.plaid_types.specs.declared.KeySetSlot.{KeySetSlot}
 use Rattle.plaid_types.specs.declared.Mode.{Mode}
 use Rattle.plaid_types.specs.declared.Session.{Session}
 use Rattle.plaid_types.specs.declared.Card.{Card}
 use Rattle.load.specs.Load.{pastSet, pastMode, refusal, badRecord, largestSize, filled, setSlot, modeSlot, loadedCard}
-use Rattle.load.specs.Laws.{neither, some-none, Accepted, accepted, setAt, modeAt, set-held, mode-held, set-given, mode-given, IsLoaded, is-loaded, load-made, load-number}
+use Rattle.load.specs.Laws.{neither, some-none, Accepted, accepted, setAt, modeAt, set-held, mode-held, set-given, mode-given, IsLoaded, is-loaded, load-made, load-number, stocked-length, set-right, key-kept}
 use Rattle.load.specs.declared.Loaded.{Loaded}
 use Rattle.card.specs.Demand3.{Sound}
 use Rattle.plaid.specs.Interface.{loadOf}
-use Rattle.claims.specs.Load.{Load, cardOf, recordGiven}
+use Rattle.claims.specs.Load.{Load, TypedValue, cardOf, recordGiven}
 
 -- a part of the area that lies in what was given
 part-filled : (n : ℕ) (area : List ℕ) (s k : ℕ) → s + k ≤ length area → part (filled n 0 area) s k ≡ part area s k
@@ -34,37 +38,42 @@ filled-bytes : (n : ℕ) (area : List ℕ) → Bytes area → Bytes (filled n 0 
 unfolding filled
 filled-bytes n area b = append-bytes area (replicate (n - length area) 0) b (zeros-bytes (n - length area))
 
+-- the bytes of a key, RND or KeysHash
+pub value-byte : (v : Value) → TypedValue v → Bytes (bytesOf v)
+unfolding held
+value-byte v t = part-bytes (v .bytes) 0 (v .length) (t .byte)
+
 module _ (l : Load) where
   -- the modes that are counted
   abbrev modes : List Mode
   modes = take (l .given .«mode_count») (l .given .modes)
 
   abbrev made : Card
-  made = loadedCard (l .sets) modes (l .area) (l .given .«div_data») (l .given .«shill_key») (l .given .«shill_handle»)
+  made = loadedCard (l .given .«key_length») (l .sets) modes (l .area) (l .given .«div_data») (l .given .«shill_key») (l .given .«shill_handle»)
 
-  zero-refusal : refusal (l .sets) (length (l .sets)) (l .given .modes) (l .given .«mode_count») (length (l .area)) (l .given .«shill_handle») ≡ 0
+  zero-refusal : refusal (l .given .«key_length») (l .sets) (length (l .sets)) (l .given .modes) (l .given .«mode_count») (length (l .area)) (l .given .«shill_key») (l .given .«shill_handle») ≡ 0
   unfolding loadOf
   zero-refusal =
-      sym (load-number (l .sets) (length (l .sets)) (l .given .modes) (l .given .«mode_count») (l .area) (l .given .«div_data») (l .given .«shill_key») (l .given .«shill_handle»))
+      sym (load-number (l .given .«key_length») (l .sets) (length (l .sets)) (l .given .modes) (l .given .«mode_count») (l .area) (l .given .«div_data») (l .given .«shill_key») (l .given .«shill_handle»))
       ∙ l .success
 
-  shown : Accepted (l .sets) (length (l .sets)) (l .given .modes) (l .given .«mode_count») (length (l .area)) (l .given .«shill_handle»)
-  shown = accepted (l .sets) (length (l .sets)) (l .given .modes) (l .given .«mode_count») (length (l .area)) (l .given .«shill_handle») zero-refusal
+  shown : Accepted (l .given .«key_length») (l .sets) (length (l .sets)) (l .given .modes) (l .given .«mode_count») (length (l .area)) (l .given .«shill_key») (l .given .«shill_handle»)
+  shown = accepted (l .given .«key_length») (l .sets) (length (l .sets)) (l .given .modes) (l .given .«mode_count») (length (l .area)) (l .given .«shill_key») (l .given .«shill_handle») zero-refusal
 
   card-is : cardOf l ≡ made
   unfolding loadOf
   card-is =
       ap (λ (r : Loaded). r .card)
-      (load-made (l .sets) (length (l .sets)) (l .given .modes) (l .given .«mode_count») (l .area) (l .given .«div_data») (l .given .«shill_key») (l .given .«shill_handle») zero-refusal)
-      ∙ ap (λ (s : List KeySet). loadedCard s modes (l .area) (l .given .«div_data») (l .given .«shill_key») (l .given .«shill_handle»)) (take-length (l .sets))
+      (load-made (l .given .«key_length») (l .sets) (length (l .sets)) (l .given .modes) (l .given .«mode_count») (l .area) (l .given .«div_data») (l .given .«shill_key») (l .given .«shill_handle») zero-refusal)
+      ∙ ap (λ (s : List KeySet). loadedCard (l .given .«key_length») s modes (l .area) (l .given .«div_data») (l .given .«shill_key») (l .given .«shill_handle»)) (take-length (l .sets))
 
   -- the slot of a set that was given, and that there is no other
   pub set-slot : (i : ℕ) → i < length (l .sets) → setAt (cardOf l) i ≡ setSlot (getD (l .sets) i pastSet)
-  set-slot i h = ap (λ (c : Card). setAt c i) card-is ∙ set-held (l .sets) modes (l .area) (l .given .«div_data») (l .given .«shill_key») (l .given .«shill_handle») i h
+  set-slot i h = ap (λ (c : Card). setAt c i) card-is ∙ set-held (l .given .«key_length») (l .sets) modes (l .area) (l .given .«div_data») (l .given .«shill_key») (l .given .«shill_handle») i h
 
   pub slot-given : (i : ℕ) → setAt (cardOf l) i .held ≡ true → i < length (l .sets)
   slot-given i e =
-      set-given (l .sets) modes (l .area) (l .given .«div_data») (l .given .«shill_key») (l .given .«shill_handle») i
+      set-given (l .given .«key_length») (l .sets) modes (l .area) (l .given .«div_data») (l .given .«shill_key») (l .given .«shill_handle») i
       (sym (ap (λ (c : Card). setAt c i .held) card-is) ∙ e)
 
   pub sets-most : length (l .sets) ≤ 8
@@ -75,7 +84,7 @@ module _ (l : Load) where
   mode-counted i e =
       omega (
         arith,
-        mode-given (l .sets) modes (l .area) (l .given .«div_data») (l .given .«shill_key») (l .given .«shill_handle») i (sym (ap (λ (c : Card). modeAt c i .held) card-is) ∙ e),
+        mode-given (l .given .«key_length») (l .sets) modes (l .area) (l .given .«div_data») (l .given .«shill_key») (l .given .«shill_handle») i (sym (ap (λ (c : Card). modeAt c i .held) card-is) ∙ e),
         length-take-le (l .given .«mode_count») (l .given .modes) (omega (arith, l .typed .modes, shown .modes-most)),
       )
 
@@ -90,7 +99,7 @@ module _ (l : Load) where
     pub mode-slot : modeAt (cardOf l) i ≡ modeSlot (getD (l .given .modes) i pastMode)
     mode-slot =
         ap (λ (c : Card). modeAt c i) card-is
-        ∙ mode-held (l .sets) modes (l .area) (l .given .«div_data») (l .given .«shill_key») (l .given .«shill_handle») i (omega (arith, modes-long))
+        ∙ mode-held (l .given .«key_length») (l .sets) modes (l .area) (l .given .«div_data») (l .given .«shill_key») (l .given .«shill_handle») i (omega (arith, modes-long))
         ∙ ap modeSlot mode-at
 
     pub mode-below : i < 16
@@ -122,8 +131,8 @@ module _ (l : Load) where
   is-a-load =
       rw card-is
       (rw (take-length (l .sets)) at
-      (is-loaded (l .sets) (length (l .sets)) (l .given .modes) (l .given .«mode_count») (l .area) (l .given .«div_data») (l .given .«shill_key») (l .given .«shill_handle») zero-refusal
-      (le-refl (length (l .sets))) (l .typed .modes) (l .typed .div .long) (l .typed .key .long) (λ i h. l .typed .keys i h .long)))
+      (is-loaded (l .given .«key_length») (l .sets) (length (l .sets)) (l .given .modes) (l .given .«mode_count») (l .area) (l .given .«div_data») (l .given .«shill_key») (l .given .«shill_handle») zero-refusal
+      (le-refl (length (l .sets))) (l .typed .modes) (l .typed .div .long)))
 
   pub sound : Sound (cardOf l)
   sound =
@@ -132,7 +141,7 @@ module _ (l : Load) where
         sets = k .stocked .sets-long;
         modes = k .stocked .modes-long;
         div = k .stocked .div-long;
-        rnd1 = ap (λ (s : Session). length (s .rnd1)) (k .no-session);
+        stored = record { sets = k .stocked .fa-long; shill = k .stocked .key-long; rnd1 = ap (λ (s : Session). length (s .rnd1)) (k .no-session) };
         size = k .stocked .size-most;
       }
 
@@ -145,9 +154,34 @@ module _ (l : Load) where
   unfolding loadedCard
   handle-given = ap (λ (c : Card). c .«shill_handle») card-is
 
-  pub key-given : cardOf l .«shill_key» ≡ l .given .«shill_key»
+  -- T-04: "A card and its reader have one key length L": the load's
+  pub length-given : cardOf l .«key_length» ≡ l .given .«key_length»
+  unfolding loadedCard
+  length-given = ap (λ (c : Card). c .«key_length») card-is
+
+  pub length-three : keyLength (l .given .«key_length») ≡ true
+  length-three = shown .length-one
+
+  pub length-is : keyLengthOf (cardOf l) ≡ l .given .«key_length»
+  length-is = stocked-length (cardOf l) (is-a-load .stocked) ∙ length-given
+
+  pub key-given : cardOf l .«shill_key» ≡ wide (bytesOf (l .given .«shill_key»))
   unfolding loadedCard
   key-given = ap (λ (c : Card). c .«shill_key») card-is
+
+  -- the shill key has L bytes, which the card holds
+  pub shill-held : held (keyLengthOf (cardOf l)) (cardOf l .«shill_key») ≡ bytesOf (l .given .«shill_key»)
+  shill-held =
+      ap₂ held length-is key-given ∙ key-kept (l .given .«key_length») (l .given .«shill_key») length-three (l .typed .key .long) (shown .key-right)
+
+  -- each FAKey has L bytes, which its slot holds
+  pub set-length : (i : ℕ) → i < length (l .sets) → getD (l .sets) i pastSet .«fa_key» .length ≡ l .given .«key_length»
+  set-length i h = set-right shown i h (le-refl (length (l .sets)))
+
+  pub fa-key-held : (i : ℕ) → i < length (l .sets) → held (l .given .«key_length») (setAt (cardOf l) i .«fa_key») ≡ bytesOf (getD (l .sets) i pastSet .«fa_key»)
+  fa-key-held i h =
+      ap (λ (s : KeySetSlot). held (l .given .«key_length») (s .«fa_key»)) (set-slot i h)
+      ∙ key-kept (l .given .«key_length») (getD (l .sets) i pastSet .«fa_key») length-three (l .typed .keys i h .long) (set-length i h)
 
   pub div-given : cardOf l .«div_data» ≡ l .given .«div_data»
   unfolding loadedCard

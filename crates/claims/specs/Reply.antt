@@ -14,6 +14,8 @@ use Rattle.padding.specs.Method2.{padded}
 use Rattle.cbc.specs.Cbc.{encrypted, zeros}
 use Rattle.frame.specs.Frame.{frameOf, dataOf}
 use Rattle.frame.specs.Laws.{passed}
+use Rattle.plaid_types.specs.Keys as keys
+use Rattle.plaid_types.specs.Keys.{keyLengthOf}
 use Rattle.plaid_types.specs.declared.OpModeId.{OpModeId}
 use Rattle.plaid_types.specs.declared.ModeSlot.{ModeSlot}
 use Rattle.plaid_types.specs.declared.Card.{Card}
@@ -24,7 +26,7 @@ use Rattle.card.specs.Command.{verdictOn, replyTo, answerBytes}
 use Rattle.card.specs.Lists.{Call, cardAfter, bytesOf, isDeclined, isInitial, accepted}
 use Rattle.session_final.specs.Reply.{bodyAt, namedBody, body-fills, AcceptedReply, accepted-reply, refused-reply}
 use Rattle.claims.specs.Load.{Load, cardOf, bodyGiven}
-use Rattle.claims.specs.Loaded.{mode-counted, mode-slot, mode-below, record-given, key-given, div-given, is-a-load}
+use Rattle.claims.specs.Loaded.{mode-counted, mode-slot, mode-below, record-given, shill-held, div-given, is-a-load}
 use Rattle.claims.specs.Kept.{Kept, kept}
 use Rattle.claims.specs.Found as found
 
@@ -43,9 +45,9 @@ pub record AcceptedFinal (l : Load) (xs : List Call) (x : Call) : Type 0 where
       bytesOf (left l xs) x
       ≡ encrypted (aesUnder (keysHash (left l xs) (dataOf (x .command)))) zeros (cardOf l .«reply_size») (padded (bodyGiven l at ++ l .given .«div_data»))
 
--- "Otherwise the first 16B fresh bytes go by CBC under the shill key, unpadded."
+-- "Otherwise the first 16B fresh bytes go by CBC under the shill key, unpadded.", by T-04 one of L bytes
 abbrev pub RefusedFinal : Load → List Call → Call → Type 0
-RefusedFinal l xs x = bytesOf (left l xs) x ≡ encrypted (aesUnder (l .given .«shill_key»)) zeros (cardOf l .«reply_size») (part (x .fresh) 0 (16 * cardOf l .«reply_size»))
+RefusedFinal l xs x = bytesOf (left l xs) x ≡ encrypted (aesUnder (keys.bytesOf (l .given .«shill_key»))) zeros (cardOf l .«reply_size») (part (x .fresh) 0 (16 * cardOf l .«reply_size»))
 
 -- a final command that is not declined: accepted or refused, and so answered
 pub record FinalAnswers (l : Load) (xs : List Call) (x : Call) : Type 0 where
@@ -67,22 +69,22 @@ module _ (l : Load) (i : ℕ) (h : i < l .given .«mode_count») where
       sym (ap (λ (s : List ℕ). length (padded s)) body-given)
       ∙ body-fills (cardOf l) (modeAt (cardOf l) i) g (g .good i (ap (λ (s : ModeSlot). s .held) (mode-slot l i h)))
 
-module _ (l : Load) (xs : List Call) (x : Call) (goes : isDeclined x ≡ false) (final : isInitial x ≡ false) where
+module _ (l : Load) (xs : List Call) (x : Call) (goes : isDeclined (keyLengthOf (left l xs)) x ≡ false) (final : isInitial x ≡ false) where
   kp : Kept l (left l xs)
   kp = kept l xs
 
   d : List ℕ
   d = dataOf (x .command)
 
-  passes : (b : Bool) → eqb (verdictOn (x .command) (x .fresh) (x .room) .status) 0x9000 ≡ b → not b ≡ false → b ≡ true
+  passes : (b : Bool) → eqb (verdictOn (keyLengthOf (left l xs)) (x .command) (x .fresh) (x .room) .status) 0x9000 ≡ b → not b ≡ false → b ≡ true
   passes true e q = refl
   passes false e q = absurd (true≢false q)
 
-  goes-on : eqb (verdictOn (x .command) (x .fresh) (x .room) .status) 0x9000 ≡ true
-  goes-on = passes (eqb (verdictOn (x .command) (x .fresh) (x .room) .status) 0x9000) refl goes
+  goes-on : eqb (verdictOn (keyLengthOf (left l xs)) (x .command) (x .fresh) (x .room) .status) 0x9000 ≡ true
+  goes-on = passes (eqb (verdictOn (keyLengthOf (left l xs)) (x .command) (x .fresh) (x .room) .status) 0x9000) refl goes
 
   fresh-long : length (x .fresh) ≡ 253
-  fresh-long = passed (length (x .command)) (frameOf (x .command)) (x .fresh) (x .room) (eqb-true _ _ goes-on) .fresh-long
+  fresh-long = passed (keyLengthOf (left l xs)) (length (x .command)) (frameOf (x .command)) (x .fresh) (x .room) (eqb-true _ _ goes-on) .fresh-long
 
   bytes-are : bytesOf (left l xs) x ≡ finalReply (left l xs) d (x .fresh) .bytes
   unfolding answerBytes replyTo d
@@ -134,7 +136,7 @@ module _ (l : Load) (xs : List Call) (x : Call) (goes : isDeclined x ≡ false) 
   refused-so e =
       bytes-are
       ∙ refused-reply (left l xs) d (x .fresh) (kp .stocked) e fresh-long
-      ∙ ap₂ (λ (k : List ℕ) (n : ℕ). encrypted (aesUnder k) zeros n (part (x .fresh) 0 (16 * n))) (ap (λ (c : Card). c .«shill_key») (kp .same) ∙ key-given l) size-is
+      ∙ ap₂ (λ (k : List ℕ) (n : ℕ). encrypted (aesUnder k) zeros n (part (x .fresh) 0 (16 * n))) (ap (λ (c : Card). keys.held (keyLengthOf c) (c .«shill_key»)) (kp .same) ∙ shill-held l) size-is
 
   pub final-answers : FinalAnswers l xs x
   final-answers = record { if-accepted = λ a. answered-so (sym accepts-are ∙ a); if-refused = λ a. refused-so (sym accepts-are ∙ a) }
@@ -152,7 +154,7 @@ pub named-answer : (l : Load) (xs : List Call) (x : Call) → isInitial x ≡ fa
     ≡ encrypted (aesUnder (keysHash (left l xs) (dataOf (x .command)))) zeros (cardOf l .«reply_size») (padded (bodyGiven l i ++ l .given .«div_data»))
 unfolding accepted
 named-answer l xs x final e i h q =
-    let goes : isDeclined x ≡ false = not-true (isDeclined x) (split-and _ _ e .0) in
+    let goes : isDeclined (keyLengthOf (left l xs)) x ≡ false = not-true (isDeclined (keyLengthOf (left l xs)) x) (split-and _ _ e .0) in
     let a = final-answers l xs x goes final .if-accepted e in
     let v : OpModeId = opMode (textOf (left l xs) (dataOf (x .command))) in
     let same : a .at ≡ i = sym (one-mode l v (a .at) (a .given) (a .named)) ∙ one-mode l v i h (sym q) in

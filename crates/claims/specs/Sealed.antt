@@ -11,6 +11,8 @@ use borrow.Author.Tests.{eqb-true}
 use Rattle.octets.specs.Bytes.{Bytes}
 use Rattle.frame.specs.Frame.{frameOf, insOf, initialIns, finalIns, dataOf}
 use Rattle.frame.specs.Laws.{Passed, passed, data-long, frame-byte}
+use Rattle.plaid_types.specs.Keys as keys
+use Rattle.plaid_types.specs.Keys.{keyLengthOf, bytesOf}
 use Rattle.plaid_types.specs.declared.KeySetSlot.{KeySetSlot}
 use Rattle.plaid_types.specs.declared.OpModeId.{OpModeId}
 use Rattle.plaid_types.specs.declared.Card.{Card}
@@ -19,17 +21,17 @@ use Rattle.load.specs.Laws.{setAt}
 use Rattle.final_command.specs.Final.{faKeyOf, rnd1Of, acceptsFinal}
 use Rattle.card.specs.Command.{verdictOn}
 use Rattle.card.specs.Lists.{Call, isInitial, accepted}
-use Rattle.reader_seal.specs.Seal.{sealCommand}
+use Rattle.reader_seal.specs.Seal.{payloadMost, sealCommand}
 use Rattle.session_final.specs.Accepts.{six-conditions}
 use Rattle.session_final.specs.Converse.{modeIn, rnd2In, payloadIn, accepted-sealed, accepted-command, data-bytes}
 use Rattle.session.specs.Kept.{HeldIn}
 use Rattle.claims.specs.Load.{Load, cardOf}
-use Rattle.claims.specs.Loaded.{set-slot, slot-given, div-given}
+use Rattle.claims.specs.Loaded.{value-byte, set-slot, slot-given, div-given, length-is, fa-key-held}
 use Rattle.claims.specs.Kept.{Kept, kept}
 use Rattle.claims.specs.Reply.{left}
 
 -- the command of the call x, on the card that the load l and the calls xs left, is Seal's: for the FAKey of the set that the session has, the load's
--- DivData, the session's RND1, and some RND2, mode and payload of at most 205 bytes
+-- DivData, the session's RND1, and some RND2, mode and payload. T-04: "Payload limits are 205, 189 and 173"
 pub record IsSeals (l : Load) (xs : List Call) (x : Call) : Type 0 where
   pub set : ℕ
   pub given : set < length (l .sets)
@@ -37,10 +39,10 @@ pub record IsSeals (l : Load) (xs : List Call) (x : Call) : Type 0 where
   pub rnd2 : List ℕ
   pub mode : OpModeId
   pub payload : List ℕ
-  pub payload-most : length payload ≤ 205
-  pub sealed : x .command ≡ sealCommand (getD (l .sets) set pastSet .«fa_key») (l .given .«div_data») (left l xs .session .rnd1) rnd2 mode payload
+  pub payload-most : length payload ≤ payloadMost (l .given .«key_length»)
+  pub sealed : x .command ≡ sealCommand (l .given .«key_length») (bytesOf (getD (l .sets) set pastSet .«fa_key»)) (l .given .«div_data») (keys.held (l .given .«key_length») (left l xs .session .rnd1)) rnd2 mode payload
 
-module _ (l : Load) (xs : List Call) (x : Call) (bytes : Bytes (x .command)) (final : isInitial x ≡ false) (goes : eqb (verdictOn (x .command) (x .fresh) (x .room) .status) 0x9000 ≡ true)
+module _ (l : Load) (xs : List Call) (x : Call) (bytes : Bytes (x .command)) (final : isInitial x ≡ false) (goes : eqb (verdictOn (keyLengthOf (left l xs)) (x .command) (x .fresh) (x .room) .status) 0x9000 ≡ true)
     (e : acceptsFinal (left l xs) (dataOf (x .command)) ≡ true) where
   kp : Kept l (left l xs)
   kp = kept l xs
@@ -60,19 +62,22 @@ module _ (l : Load) (xs : List Call) (x : Call) (bytes : Bytes (x .command)) (fi
   set-is : setAt (left l xs) (held .slot) ≡ setSlot (getD (l .sets) (held .slot) pastSet)
   set-is = slot-is ∙ set-slot l (held .slot) within
 
-  key-is : faKeyOf (left l xs) ≡ getD (l .sets) (held .slot) pastSet .«fa_key»
-  unfolding held
-  key-is = kp .key open-so ∙ ap (λ (s : KeySetSlot). s .«fa_key») set-is
+  length-so : keyLengthOf (left l xs) ≡ l .given .«key_length»
+  length-so = ap keyLengthOf (kp .same) ∙ length-is l
 
-  rnd1-is : rnd1Of (left l xs) ≡ left l xs .session .rnd1
+  key-is : faKeyOf (left l xs) ≡ bytesOf (getD (l .sets) (held .slot) pastSet .«fa_key»)
+  unfolding held
+  key-is = kp .key open-so ∙ ap₂ (λ (n : ℕ) (s : KeySetSlot). keys.held n (s .«fa_key»)) length-so slot-is ∙ fa-key-held l (held .slot) within
+
+  rnd1-is : rnd1Of (left l xs) ≡ keys.held (l .given .«key_length») (left l xs .session .rnd1)
   unfolding rnd1Of
-  rnd1-is = rw open-so
+  rnd1-is = rw open-so (ap (λ (n : ℕ). keys.held n (left l xs .session .rnd1)) length-so)
 
   div-is : left l xs .«div_data» ≡ l .given .«div_data»
   div-is = ap (λ (y : Card). y .«div_data») (kp .same) ∙ div-given l
 
-  past : Passed (length (x .command)) (frameOf (x .command)) (x .fresh) (x .room)
-  past = passed (length (x .command)) (frameOf (x .command)) (x .fresh) (x .room) (eqb-true _ _ goes)
+  past : Passed (keyLengthOf (left l xs)) (length (x .command)) (frameOf (x .command)) (x .fresh) (x .room)
+  past = passed (keyLengthOf (left l xs)) (length (x .command)) (frameOf (x .command)) (x .fresh) (x .room) (eqb-true _ _ goes)
 
   final-by : (s t : Bool) → eqb (insOf (frameOf (x .command))) finalIns ≡ t → s ≡ false → (s || t) ≡ true → t ≡ true
   final-by true t p q r = absurd (true≢false q)
@@ -84,7 +89,7 @@ module _ (l : Load) (xs : List Call) (x : Call) (bytes : Bytes (x .command)) (fi
       (final-by (eqb (insOf (frameOf (x .command))) initialIns) (eqb (insOf (frameOf (x .command))) finalIns) refl final (past .frame .known))
 
   key-bytes : Bytes (faKeyOf (left l xs))
-  key-bytes = subst (λ (s : List ℕ). Bytes s) (sym key-is) (l .typed .keys (held .slot) within .byte)
+  key-bytes = subst (λ (s : List ℕ). Bytes s) (sym key-is) (value-byte (getD (l .sets) (held .slot) pastSet .«fa_key») (l .typed .keys (held .slot) within))
 
   div-bytes : Bytes (left l xs .«div_data»)
   div-bytes = subst (λ (s : List ℕ). Bytes s) (sym div-is) (l .typed .div .byte)
@@ -103,18 +108,20 @@ module _ (l : Load) (xs : List Call) (x : Call) (bytes : Bytes (x .command)) (fi
         rnd2 = rnd2In k t;
         mode = modeIn k t;
         payload = payloadIn k t;
-        payload-most = accepted-sealed k t (kp .stocked) key-bytes div-bytes (data-bytes (x .command) bytes) most e .payload-most;
+        payload-most =
+            subst (λ (n : ℕ). length (payloadIn k t) ≤ payloadMost n) length-so
+            (accepted-sealed k t (kp .stocked) key-bytes div-bytes (data-bytes (x .command) bytes) most e .payload-most);
         sealed =
             accepted-command k (x .command) (kp .stocked) key-bytes div-bytes bytes (past .status) is-final e
-            ∙ ap₂ (λ (f v : List ℕ). sealCommand f v (rnd1Of k) (rnd2In k t) (modeIn k t) (payloadIn k t)) key-is div-is
-            ∙ ap (λ (r : List ℕ). sealCommand (getD (l .sets) (held .slot) pastSet .«fa_key») (l .given .«div_data») r (rnd2In k t) (modeIn k t) (payloadIn k t)) rnd1-is;
+            ∙ ap₂ (λ (f v : List ℕ). sealCommand (keyLengthOf k) f v (rnd1Of k) (rnd2In k t) (modeIn k t) (payloadIn k t)) key-is div-is
+            ∙ ap₂ (λ (n : ℕ) (r : List ℕ). sealCommand n (bytesOf (getD (l .sets) (held .slot) pastSet .«fa_key»)) (l .given .«div_data») r (rnd2In k t) (modeIn k t) (payloadIn k t)) length-so rnd1-is;
       }
 
 -- THE REVERSE: a final command of bytes that is accepted, on the card that any load and any calls left
 pub accepted-is-seals : (l : Load) (xs : List Call) (x : Call) → Bytes (x .command) → isInitial x ≡ false → accepted (left l xs) x ≡ true → IsSeals l xs x
 unfolding accepted
-accepted-is-seals l xs x h f a = by (eqb (verdictOn (x .command) (x .fresh) (x .room) .status) 0x9000) refl a
+accepted-is-seals l xs x h f a = by (eqb (verdictOn (keyLengthOf (left l xs)) (x .command) (x .fresh) (x .room) .status) 0x9000) refl a
   where
-    by : (t : Bool) → eqb (verdictOn (x .command) (x .fresh) (x .room) .status) 0x9000 ≡ t → accepted (left l xs) x ≡ true → IsSeals l xs x
+    by : (t : Bool) → eqb (verdictOn (keyLengthOf (left l xs)) (x .command) (x .fresh) (x .room) .status) 0x9000 ≡ t → accepted (left l xs) x ≡ true → IsSeals l xs x
     by true q z = is-seals l xs x h f q (rw (q, f) at z)
     by false q z = absurd (true≢false (sym (rw q at z)))

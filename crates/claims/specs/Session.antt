@@ -5,8 +5,10 @@ use mathlib.Core.Bool.{false}
 use mathlib.Core.List.{List}
 use Prim.Native.Nat.{ℕ, _<_}
 use lib.ListN.{length, getD}
-use Rattle.octets.specs.Bytes.{Bytes, Block}
+use Rattle.octets.specs.Bytes.{Bytes}
 use Rattle.octets.specs.Lists.{part}
+use Rattle.plaid_types.specs.Keys.{bytesOf}
+use Rattle.plaid_types.specs.declared.Value.{Value}
 use Rattle.plaid_types.specs.declared.KeySetId.{KeySetId}
 use Rattle.plaid_types.specs.declared.OpModeId.{OpModeId}
 use Rattle.plaid_types.specs.declared.Card.{Card}
@@ -22,13 +24,15 @@ use Rattle.reader_seal.specs.Seal.{sealedOf, sealOutput}
 use Rattle.reader_seal.specs.declared.Sealed.{Sealed}
 use Rattle.reader_accept.specs.Accept.{acceptedOf, workAfter, recordPart}
 use Rattle.reader_accept.specs.declared.Accepted.{Accepted}
-use Rattle.claims.specs.Load.{Load, cardOf, recordGiven}
+use Rattle.claims.specs.Load.{Load, TypedValue, cardOf, recordGiven}
 
 -- a session: what the two ends and their platforms give
 pub record Exchange : Type 0 where
   -- the successful load, and the calls that the card got since, whatever they were
   pub load : Load
   pub before : List Call
+  -- T-04: the reader's L, which Open, Seal and Accept get
+  pub keyLength : ℕ
   -- the reader's KeySetIDs, the first `count`, and the buffer that List gets
   pub ids : List KeySetId
   pub count : ℕ
@@ -39,8 +43,8 @@ pub record Exchange : Type 0 where
   -- what the reader's platform decrypted
   pub blocks : List ℕ
   -- the reader's FAKey for the winning set, RND2, mode, payload, and the buffer that Seal gets
-  pub faKey : List ℕ
-  pub rnd2 : List ℕ
+  pub faKey : Value
+  pub rnd2 : Value
   pub mode : OpModeId
   pub payload : List ℕ
   pub sealOut : List ℕ
@@ -72,14 +76,14 @@ module _ (e : Exchange) where
 
   -- Open
   abbrev pub open₁ : Opened
-  open₁ = opened (e .ids) (e .count) (e .blocks)
+  open₁ = opened (e .keyLength) (e .ids) (e .count) (e .blocks)
 
   -- Seal, "with DivData and RND1 as Open gave them", and the command that it wrote
   abbrev pub seal : Sealed
-  seal = sealedOf (e .faKey) (open₁ .«div_data») (open₁ .rnd1) (e .rnd2) (e .mode) (e .payload) (length (e .sealOut))
+  seal = sealedOf (e .keyLength) (e .faKey) (open₁ .«div_data») (open₁ .rnd1) (e .rnd2) (e .mode) (e .payload) (length (e .sealOut))
 
   abbrev pub command₂ : List ℕ
-  command₂ = part (sealOutput (e .faKey) (open₁ .«div_data») (open₁ .rnd1) (e .rnd2) (e .mode) (e .payload) (e .sealOut)) 0 (seal .length)
+  command₂ = part (sealOutput (e .keyLength) (e .faKey) (open₁ .«div_data») (open₁ .rnd1) (e .rnd2) (e .mode) (e .payload) (e .sealOut)) 0 (seal .length)
 
   -- the card's answer to it: "the card gets no other command in between"
   abbrev pub outcome₂ : Outcome
@@ -90,12 +94,12 @@ module _ (e : Exchange) where
 
   -- Accept, and the part of the work buffer that it returns
   abbrev pub accept : Accepted
-  accept = acceptedOf (seal .«keys_hash») (open₁ .«div_data») (e .recordLength) answer₂ (length (e .work))
+  accept = acceptedOf (e .keyLength) (seal .«keys_hash») (open₁ .«div_data») (e .recordLength) answer₂ (length (e .work))
 
   abbrev pub returned : List ℕ
-  returned = recordPart (workAfter (seal .«keys_hash») (open₁ .«div_data») (e .recordLength) answer₂ (e .work)) accept
+  returned = recordPart (workAfter (e .keyLength) (seal .«keys_hash») (open₁ .«div_data») (e .recordLength) answer₂ (e .work)) accept
 
-  -- the conditions of the promise, in document 01's words and T-01's
+  -- the conditions of the promise, in the words of document 01, T-01 and T-04
   pub record Conditions : Type 0 where
     -- "the first listed set that the card holds": the entry at `place` names the load's set at `set`, and no entry before it names a set of the load
     pub place : ℕ
@@ -105,29 +109,32 @@ module _ (e : Exchange) where
     pub same-id : getD (e .load .sets) set pastSet .id ≡ getD (e .ids) place noId
     pub none-earlier : (i j : ℕ) → i < place → j < length (e .load .sets) → getD (e .load .sets) j pastSet .id ≡ getD (e .ids) i noId → ⊥
     -- it "has equal FAKey at both ends"
-    pub same-key : getD (e .load .sets) set pastSet .«fa_key» ≡ e .faKey
+    pub same-key : bytesOf (getD (e .load .sets) set pastSet .«fa_key») ≡ bytesOf (e .faKey)
     -- "platform decryption undoes encryption for it"
     pub decrypted : blockAt (e .blocks) place ≡ answer₁
     -- "no earlier entry's block opens"
-    pub none-opens : (i : ℕ) → i < place → opensAs (getD (e .ids) i noId) (blockAt (e .blocks) i) ≡ false
+    pub none-opens : (i : ℕ) → i < place → opensAs (e .keyLength) (getD (e .ids) i noId) (blockAt (e .blocks) i) ≡ false
     -- "the mode is held": it is the load's mode at `at`
     pub at : ℕ
     pub mode-loaded : at < e .load .given .«mode_count»
     pub same-mode : getD (e .load .given .modes) at pastMode .id ≡ e .mode
     -- T-01: "The reader gets the mode's record length, which a session needs to be the card's"
     pub same-length : e .recordLength ≡ getD (e .load .given .modes) at pastMode .len
-    -- "none of 8 to 14, 16, 17 and 19 arises": 11 to 13 in List, 8 to 10 in both calls, 14 in Open, 16 and 17 in Seal, 19 in Accept
+    -- "none of 8 to 14, 16, 17 and 19 arises": 11 to 13 in List, 8 to 10 in both calls, 14 in Open, 16 and 17 in Seal, 19 in Accept. T-04: "The session
+    -- promise also needs that neither 21 nor 22 arises", in Open, Seal and Accept. That the two ends have one L follows: Seal takes a FAKey of the
+    -- reader's L, and the load one of the card's
     pub list-done : written .number ≡ 0
     pub first-done : outcome₁ .answer .number ≡ 0
-    pub open-done : open₁ .number ≡ 14 → ⊥
+    pub open-done : (open₁ .number ≡ 14 → ⊥) × (open₁ .number ≡ 21 → ⊥)
     pub seal-done : seal .number ≡ 0
     pub second-done : outcome₂ .answer .number ≡ 0
-    pub accept-done : accept .number ≡ 19 → ⊥
-    -- what the types of the inputs say: an array of sixteen KeySetIDs, numbers of two bytes, and bytes
+    pub accept-done : (accept .number ≡ 19 → ⊥) × (accept .number ≡ 21 → ⊥) × (accept .number ≡ 22 → ⊥)
+    -- what the types of the inputs say: an array of sixteen KeySetIDs, numbers of two bytes, values of 32 bytes, and bytes
     pub ids-long : length (e .ids) ≡ 16
     pub ids-small : (i : ℕ) → getD (e .ids) i noId .0 < 65536
     pub mode-small : e .mode .0 < 65536
-    pub rnd2-block : Block (e .rnd2)
+    pub key-typed : TypedValue (e .faKey)
+    pub rnd2-typed : TypedValue (e .rnd2)
     pub payload-bytes : Bytes (e .payload)
 
   -- "Then Accept returns that mode's record": the part of the area that the load was given, and none of the payload behind it

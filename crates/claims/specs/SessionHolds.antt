@@ -10,6 +10,11 @@ use lib.Seq.{getD-take, length-take-le}
 use borrow.Author.Tests.{ltb-true, ltb-false}
 use Rattle.octets.specs.Bytes.{Bytes}
 use Rattle.octets.specs.Lists.{part}
+use Rattle.key_expansion.specs.KeyLength.{length-most}
+use Rattle.plaid_types.specs.Keys as keys
+use Rattle.plaid_types.specs.Keys.{bytesOf, valueOf}
+use Rattle.plaid_types.specs.KeyLaws.{length-bytes}
+use Rattle.plaid_types.specs.declared.Value.{Value}
 use Rattle.plaid_types.specs.declared.KeySetId.{KeySetId}
 use Rattle.plaid_types.specs.declared.KeySetSlot.{KeySetSlot}
 use Rattle.plaid_types.specs.declared.Mode.{Mode}
@@ -22,9 +27,10 @@ use Rattle.list.specs.Meaning.{encoded-encodes}
 use Rattle.initial.specs.Initial.{slotOf}
 use Rattle.final_command.specs.Final.{firstMode}
 use Rattle.card.specs.Command.{outcome, answerBytes}
-use Rattle.reader_list.specs.List.{numbers, given, listCommand, listed}
+use Rattle.reader_list.specs.List.{numbers, given, listCommand}
 use Rattle.reader_open.specs.Open.{noId, blockAt}
-use Rattle.reader_seal.specs.Seal.{keysHashOf, sealCommand}
+use Rattle.reader_seal.specs.Seal.{keysHashOf, sealedCommand}
+use Rattle.reader_seal.specs.Laws.{Sealable}
 use Rattle.reader_accept.specs.Accept.{acceptedOf, workAfter, recordPart}
 use Rattle.reader_accept.specs.declared.Accepted.{Accepted}
 use Rattle.session_initial.specs.Held.{held, firstHeld, Holds}
@@ -32,9 +38,9 @@ use Rattle.session_initial.specs.Answered.{list-slot}
 use Rattle.session_final.specs.SealReply.{sealedSlot}
 use Rattle.session.specs.Promise as promise
 use Rattle.claims.specs.Load.{cardOf}
-use Rattle.claims.specs.Loaded.{set-slot, slot-given, sets-most, mode-slot, mode-below, record-given, div-given, area-bytes}
+use Rattle.claims.specs.Loaded.{set-slot, slot-given, sets-most, mode-slot, mode-below, record-given, div-given, area-bytes, value-byte, length-three, length-given, set-length, fa-key-held}
 use Rattle.claims.specs.Kept.{Kept, kept}
-use Rattle.claims.specs.Found.{listed-held, place-is, slot-unique, mode-found, mode-is, list-number, list-sent, seal-hash, seal-sent}
+use Rattle.claims.specs.Found.{listed-held, place-is, slot-unique, mode-found, mode-is, list-number, list-sent, seal-seen, seal-hash, seal-sent}
 use Rattle.claims.specs.Session.{Exchange, Conditions, Promised, SessionPromise, card, command₁, outcome₁, open₁, seal, command₂, answer₂, accept}
 
 -- what the promise on a stocked card asks, from the claim's conditions
@@ -103,8 +109,28 @@ module _ (e : Exchange) (k : Conditions e) where
       (subst (λ (m : ℕ). Holds (card e .sets) (slotOf (card e) (encoded (numbers ids))) (getD ids m noId)) first-is (list-slot (card e) g ids (encoded (numbers ids)) (encoded-encodes (numbers ids) (omega (arith, length-map ids (λ (x : KeySetId). x .0), ids-are, range .1))) some-held))
       (record { below = below; kept = slot-held; id = slot-id })
 
-  key-is : setAt (card e) (slotOf (card e) (encoded (given (e .ids) (e .count)))) .«fa_key» ≡ e .faKey
-  key-is = sym (ap (λ (s : List ℕ). setAt (card e) (slotOf (card e) (encoded s)) .«fa_key») numbers-are) ∙ ap (λ (j : ℕ). setAt (card e) j .«fa_key») found-slot ∙ ap (λ (s : KeySetSlot). s .«fa_key») slot-is ∙ k .same-key
+  -- Seal takes a FAKey of the reader's L, and the load one of the card's: the two are one
+  seen : Sealable (e .keyLength) (e .faKey) (open₁ e .rnd1) (e .rnd2) (length (e .payload)) (length (e .sealOut))
+  seen = seal-seen (e .keyLength) (e .faKey) (open₁ e .«div_data») (open₁ e .rnd1) (e .rnd2) (e .mode) (e .payload) (e .sealOut) (k .seal-done)
+
+  most : e .keyLength ≤ 32
+  most = length-most (e .keyLength) (seen .length-one)
+
+  one-length : e .keyLength ≡ e .load .given .«key_length»
+  one-length =
+      let n : ℕ = e .load .given .«key_length» in
+      sym (length-bytes (e .keyLength) (e .faKey) most (k .key-typed .long) (seen .key-right))
+      ∙ sym (ap length (k .same-key))
+      ∙ length-bytes n (getD (e .load .sets) (k .set) pastSet .«fa_key») (length-most n (length-three (e .load)))
+      (e .load .typed .keys (k .set) (k .set-loaded) .long) (set-length (e .load) (k .set) (k .set-loaded))
+
+  key-is : keys.held (e .keyLength) (setAt (card e) (slotOf (card e) (encoded (given (e .ids) (e .count)))) .«fa_key») ≡ bytesOf (e .faKey)
+  key-is =
+      ap (keys.held (e .keyLength))
+      (sym (ap (λ (s : List ℕ). setAt (card e) (slotOf (card e) (encoded s)) .«fa_key») numbers-are) ∙ ap (λ (j : ℕ). setAt (card e) j .«fa_key») found-slot)
+      ∙ ap₂ (λ (n : ℕ) (x : Card). keys.held n (setAt x (k .set) .«fa_key»)) one-length (kp .same)
+      ∙ fa-key-held (e .load) (k .set) (k .set-loaded)
+      ∙ k .same-key
 
   -- the mode
   mode-slot-is : modeAt (card e) (k .at) ≡ modeSlot (getD (e .load .given .modes) (k .at) pastMode)
@@ -131,14 +157,18 @@ module _ (e : Exchange) (k : Conditions e) where
   sent₁ = list-sent (e .ids) (e .count) (e .listOut) (k .list-done)
 
   cmd₂ : List ℕ
-  cmd₂ = sealCommand (e .faKey) (open₁ e .«div_data») (open₁ e .rnd1) (e .rnd2) (e .mode) (e .payload)
+  cmd₂ = sealedCommand (e .keyLength) (e .faKey) (open₁ e .«div_data») (open₁ e .rnd1) (e .rnd2) (e .mode) (e .payload)
 
   sent₂ : (command₂ e) ≡ cmd₂
   unfolding cmd₂
-  sent₂ = seal-sent (e .faKey) (open₁ e .«div_data») (open₁ e .rnd1) (e .rnd2) (e .mode) (e .payload) (e .sealOut) (k .seal-done)
+  sent₂ = seal-sent (e .keyLength) (e .faKey) (open₁ e .«div_data») (open₁ e .rnd1) (e .rnd2) (e .mode) (e .payload) (e .sealOut) (k .seal-done)
 
-  hash-is : seal e .«keys_hash» ≡ keysHashOf (open₁ e .rnd1) (e .rnd2)
-  hash-is = seal-hash (e .faKey) (open₁ e .«div_data») (open₁ e .rnd1) (e .rnd2) (e .mode) (e .payload) (e .sealOut) (k .seal-done)
+  hash : Value
+  hash = valueOf (keysHashOf (e .keyLength) (bytesOf (open₁ e .rnd1)) (bytesOf (e .rnd2)))
+
+  hash-is : seal e .«keys_hash» ≡ hash
+  unfolding hash
+  hash-is = seal-hash (e .keyLength) (e .faKey) (open₁ e .«div_data») (open₁ e .rnd1) (e .rnd2) (e .mode) (e .payload) (e .sealOut) (k .seal-done)
 
   next : Card
   next = outcome (card e) cmd₁ (e .fresh₁) (e .room₁) .card
@@ -150,20 +180,22 @@ module _ (e : Exchange) (k : Conditions e) where
   answer-is : (answer₂ e) ≡ answerBytes next cmd₂ (e .fresh₂) (e .room₂)
   answer-is = ap₂ (λ (x : Card) (y : List ℕ). answerBytes x y (e .fresh₂) (e .room₂)) next-is sent₂
 
-  accept-is : (accept e) ≡ acceptedOf (keysHashOf (open₁ e .rnd1) (e .rnd2)) (open₁ e .«div_data») (e .recordLength) (answerBytes next cmd₂ (e .fresh₂) (e .room₂)) (length (e .work))
-  accept-is = ap₂ (λ (h a : List ℕ). acceptedOf h (open₁ e .«div_data») (e .recordLength) a (length (e .work))) hash-is answer-is
+  accept-is : (accept e) ≡ acceptedOf (e .keyLength) hash (open₁ e .«div_data») (e .recordLength) (answerBytes next cmd₂ (e .fresh₂) (e .room₂)) (length (e .work))
+  accept-is = ap₂ (λ (h : Value) (a : List ℕ). acceptedOf (e .keyLength) h (open₁ e .«div_data») (e .recordLength) a (length (e .work))) hash-is answer-is
 
-  conditions : promise.Conditions (card e) (e .ids) (e .count) (e .fresh₁) (e .room₁) (e .blocks) (e .faKey) (e .rnd2) (e .payload) (e .mode) (e .fresh₂) (e .room₂) (e .recordLength) (e .work)
-  unfolding ids cmd₁ cmd₂ next
+  conditions : promise.Conditions (e .keyLength) (card e) (e .ids) (e .count) (e .fresh₁) (e .room₁) (e .blocks) (bytesOf (e .faKey)) (bytesOf (e .rnd2)) (e .payload) (e .mode) (e .fresh₂) (e .room₂) (e .recordLength) (e .work)
+  unfolding ids cmd₁ cmd₂ next hash
   conditions =
       record {
         stocked = g;
+        one-length = one-length ∙ sym (ap (λ (x : Card). x .«key_length») (kp .same) ∙ length-given (e .load));
+        rnd2-long = length-bytes (e .keyLength) (e .rnd2) most (k .rnd2-typed .long) (seen .rnd2-right);
         list-room = length (e .listOut);
         list-made = list-number (e .ids) (e .count) (e .listOut) (k .list-done);
         first-call = sym (ap (λ (x : List ℕ). outcome (card e) x (e .fresh₁) (e .room₁) .answer .number) sent₁) ∙ k .first-done;
-        not-14 = k .open-done;
+        not-14 = k .open-done .0;
         second-call = sym (ap₂ (λ (x : Card) (y : List ℕ). outcome x y (e .fresh₂) (e .room₂) .answer .number) next-is sent₂) ∙ k .second-done;
-        not-19 = λ q. k .accept-done (ap (λ (a : Accepted). a .number) accept-is ∙ q);
+        not-19 = λ q. k .accept-done .0 (ap (λ (a : Accepted). a .number) accept-is ∙ q);
         some-held = some-held;
         same-key = key-is;
         decrypted = ap (blockAt (e .blocks)) first-is ∙ k .decrypted ∙ ap (λ (x : List ℕ). answerBytes (card e) x (e .fresh₁) (e .room₁)) sent₁;
@@ -175,27 +207,27 @@ module _ (e : Exchange) (k : Conditions e) where
         mode-small = k .mode-small;
         div-bytes = subst (λ (d : List ℕ). Bytes d) (sym (ap (λ (x : Card). x .«div_data») (kp .same) ∙ div-given (e .load))) (e .load .typed .div .byte);
         area-bytes = subst (λ (d : List ℕ). Bytes d) (sym (ap (λ (x : Card). x .area) (kp .same))) (area-bytes (e .load));
-        key-bytes = subst (λ (d : List ℕ). Bytes d) (k .same-key) (e .load .typed .keys (k .set) (k .set-loaded) .byte);
-        rnd2-block = k .rnd2-block;
+        key-bytes = value-byte (e .faKey) (k .key-typed);
+        rnd2-bytes = value-byte (e .rnd2) (k .rnd2-typed);
         payload-bytes = k .payload-bytes;
       }
 
   numbered : (accept e) ≡ record { number = 0; length = sealedSlot (card e) (e .mode) .len }
-  unfolding ids cmd₁ cmd₂ next
+  unfolding ids cmd₁ cmd₂ next hash
   numbered =
       accept-is
-      ∙ promise.session-number (card e) (e .ids) (e .count) (e .fresh₁) (e .room₁) (e .blocks) (e .faKey) (e .rnd2) (e .payload) (e .mode) (e .fresh₂) (e .room₂) (e .recordLength) (e .work) conditions
+      ∙ promise.session-number (e .keyLength) (card e) (e .ids) (e .count) (e .fresh₁) (e .room₁) (e .blocks) (bytesOf (e .faKey)) (bytesOf (e .rnd2)) (e .payload) (e .mode) (e .fresh₂) (e .room₂) (e .recordLength) (e .work) conditions
 
   promised : Promised e k
-  unfolding ids cmd₁ cmd₂ next
+  unfolding ids cmd₁ cmd₂ next hash
   promised =
       let m : Mode = getD (e .load .given .modes) (k .at) pastMode in
       record {
         number = ap (λ (a : Accepted). a .number) numbered;
         record-length = ap (λ (a : Accepted). a .length) numbered ∙ ap (λ (s : ModeSlot). s .len) sealed-slot;
         record-returned =
-            ap₂ (λ (h a : List ℕ). recordPart (workAfter h (open₁ e .«div_data») (e .recordLength) a (e .work)) (acceptedOf h (open₁ e .«div_data») (e .recordLength) a (length (e .work)))) hash-is answer-is
-            ∙ promise.session-record (card e) (e .ids) (e .count) (e .fresh₁) (e .room₁) (e .blocks) (e .faKey) (e .rnd2) (e .payload) (e .mode) (e .fresh₂) (e .room₂) (e .recordLength) (e .work) conditions
+            ap₂ (λ (h : Value) (a : List ℕ). recordPart (workAfter (e .keyLength) h (open₁ e .«div_data») (e .recordLength) a (e .work)) (acceptedOf (e .keyLength) h (open₁ e .«div_data») (e .recordLength) a (length (e .work)))) hash-is answer-is
+            ∙ promise.session-record (e .keyLength) (card e) (e .ids) (e .count) (e .fresh₁) (e .room₁) (e .blocks) (bytesOf (e .faKey)) (bytesOf (e .rnd2)) (e .payload) (e .mode) (e .fresh₂) (e .room₂) (e .recordLength) (e .work) conditions
             ∙ ap (λ (s : ModeSlot). part (card e .area) (s .start) (s .len)) sealed-slot
             ∙ ap (λ (a : List ℕ). part a (m .start) (m .len)) (ap (λ (x : Card). x .area) (kp .same))
             ∙ record-given (e .load) (k .at) (k .mode-loaded);

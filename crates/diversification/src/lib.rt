@@ -4,6 +4,7 @@ ghost use mathlib.Core.Path.{_≡_};
 ghost use mathlib.Core.Bool.{true};
 ghost use Prim.Native.Nat.{_/_};
 ghost use lib.ListN.{length};
+ghost use Rattle.sbox.specs.Rule.{sboxTable};
 ghost use Rattle.key_expansion.specs.KeyLength.{keyLength};
 ghost use Rattle.key_expansion.specs.KeyExpansion.{roundKeys};
 ghost use Rattle.work.specs.Steps.{encipherment, counted, sumFrom};
@@ -30,18 +31,24 @@ fn flip(div: [u8; 16]) -> [u8; 16]
 }
 
 // By AES itself: one step for a FAKey of 16 bytes, and two for a longer one. The rows are the FAKey's.
-pub fn diversify(fa_key: &[u8], w: &[[u8; 16]], div: [u8; 16], sum: u32) -> Diversified
-    requires { ⌜ (keyLength (length (now «fa_key»)) ≡ true) × (now w ≡ roundKeys (length (now «fa_key») / 4) (now «fa_key»)) ⌝ }
+pub fn diversify(
+    table: &[u8; 256],
+    fa_key: &[u8],
+    w: &[[u8; 16]],
+    div: [u8; 16],
+    sum: u32,
+) -> Diversified
+    requires { ⌜ (now table ≡ sboxTable) × (keyLength (length (now «fa_key»)) ≡ true) × (now w ≡ roundKeys (length (now «fa_key») / 4) (now «fa_key»)) ⌝ }
     ensures { λ r. ⌜ r ≡ record { key = wide (diversifiedBy (now («fa_key» .entry)) div); count = counted encipherment (diversifySteps (now («fa_key» .entry)) div); sum = sumFrom sum (diversifySteps (now («fa_key» .entry)) div) } ⌝ }
 {
     let shown = work::prepare(fa_key);
-    let first = aes::encipher(w, div);
+    let first = aes::encipher(table, w, div);
     let after = work::mix_cipher(sum, ENCIPHERMENT, shown, div, first);
     let mut key = [0u8; 32];
     octets::copy_at(&mut key, 0, &first);
     if 16 < fa_key.len() {
         let other = flip(div);
-        let second = aes::encipher(w, other);
+        let second = aes::encipher(table, w, other);
         let rest = fa_key.len() - 16;
         octets::copy_at(&mut key, 16, &second[..rest]);
         return Diversified {

@@ -8,11 +8,10 @@ use lib.Dec.{eqb}
 use lib.ListN.{length, getD, take, drop, replicate}
 use Rattle.octets.specs.Lists.{part, over}
 use Rattle.key_expansion.specs.Schedule.{fifteen}
-use Rattle.aes.specs.Aes.{aesUnder, invAesUnder, cipherBy}
-use Rattle.aes.specs.Rows.{lent-aes}
+use Rattle.aes.specs.Aes.{aesUnder, invAesUnder}
 use Rattle.aes.specs.RoundTrip.{length-aes}
 use Rattle.sha_block.specs.Hash.{sha256}
-use Rattle.work.specs.Steps.{Step, comparison, decipherment, encipherment, expansion, hashBlock, bytesOf, mixedAll, sumFrom, counted, workSum}
+use Rattle.work.specs.Steps.{Step, comparison, decipherment, encipherment, expansion, hashBlock, sumFrom, counted, workSum}
 use Rattle.work.specs.Laws.{sumFrom-append, counted-append}
 use Rattle.cbc.specs.Cbc.{encrypted, decrypted, encryptedWhole, decryptedWhole, zeros}
 use Rattle.cbc.specs.Steps.{enciphered, deciphered, made}
@@ -21,34 +20,42 @@ use Rattle.cbc.specs.declared.Made.{Made}
 use Rattle.steps.specs.Made.{expansionStep, hashSteps}
 use Rattle.steps.specs.declared.Expanded.{Expanded}
 use Rattle.steps.specs.declared.Hashing.{Hashing}
+use Rattle.diversification.specs.Diversification.{diversifiedBy, diversifySteps}
+use Rattle.diversification.specs.Laws.{counted-diversify}
+use Rattle.diversification.specs.declared.Diversified.{Diversified}
+use Rattle.plaid_types.specs.Keys.{keyLengthOf, wide, held}
 use Rattle.plaid_types.specs.Cards.{noMode}
 use Rattle.plaid_types.specs.declared.OpModeId.{OpModeId}
 use Rattle.plaid_types.specs.declared.ModeSlot.{ModeSlot}
 use Rattle.plaid_types.specs.declared.Card.{Card}
-use Rattle.final_command.specs.Final.{faKeyOf, rnd1Of, diversified, blocksIn, textOf, hashedOf, keysHash, opMode, modeSteps, firstMode, modeOf, decipheredText, accepting, acceptsFinal, replyKey, sizeOf, replyText, replyBuffer, finalBytes, finalSteps, finalReply}
+use Rattle.final_command.specs.Final.{keyOf, faKeyOf, diversified, blocksIn, textOf, hashedOf, keysHash, opMode, modeSteps, firstMode, modeOf, decipheredText, accepting, acceptsFinal, replyKey, sizeOf, replyText, replyBuffer, finalBytes, finalSteps, finalReply}
 use Rattle.final_command.specs.Told.{toldFinal}
-use Rattle.final_command.specs.Parts.{divSteps, textSteps, openedText, replySteps, sent, bufferOf}
-use Rattle.final_command.specs.Laws.{final-length, counted-modes}
-use Rattle.final_command.specs.declared.Diversified.{Diversified}
+use Rattle.final_command.specs.Parts.{divSteps, derived, decipheredUnder, hashing, textSteps, openedText, replySteps, sent, bufferOf}
+use Rattle.final_command.specs.Laws.{length-keysHash, final-length, counted-modes}
+use Rattle.final_command.specs.declared.Derived.{Derived}
 use Rattle.final_command.specs.declared.Deciphered.{Deciphered}
 use Rattle.final_command.specs.declared.Opened.{Opened}
 use Rattle.final_command.specs.declared.Found.{Found}
 use Rattle.final_command.specs.declared.Sent.{Sent}
 use Rattle.final_command.specs.declared.Final.{Final}
 use Rattle.final_command.proofs.Front.{front-deciphered, front-enciphered, buffer-front, buffer-decrypted, buffer-encrypted}
-use Rattle.final_command.proofs.Counts.{sum-four, text-comparisons, text-decipherments, text-encipherments, text-expansions, text-hash-blocks, reply-comparisons, reply-decipherments, reply-encipherments, reply-expansions, reply-hash-blocks}
+use Rattle.final_command.proofs.Keys.{length-first, held-choice, faKey-is, diversified-is, rnd1-is}
+use Rattle.final_command.proofs.Counts.{sum-four, div-expansions, text-comparisons, text-decipherments, text-encipherments, text-expansions, text-hash-blocks, reply-comparisons, reply-decipherments, reply-encipherments, reply-expansions, reply-hash-blocks}
+
+-- what is told of an expansion
+abbrev pub expanded : List ℕ → ℕ → Expanded
+expanded key sum = record { rows = fifteen (length key / 4) key; count = counted expansion (expansionStep key ∷ []); sum = sumFrom sum (expansionStep key ∷ []) }
 
 -- the diversified key
-pub diversified-same : (fa div : List ℕ) (sum : ℕ) (rows : List (List ℕ)) (out : List ℕ) (count s₁ s₂ : ℕ) →
-    length fa ≡ 16 → rows ≡ fifteen (length fa / 4) fa → out ≡ cipherBy (take 11 rows) div → count ≡ 1 → s₁ ≡ sumFrom sum (expansionStep fa ∷ []) →
-    s₂ ≡ mixedAll s₁ (bytesOf (record { kind = encipherment; key = fa; input = div; output = out })) →
-    _≡_ {A = Diversified} (record { key = out; encipherments = 1; expansions = count; sum = s₂ })
-    (record { key = aesUnder fa div; encipherments = counted encipherment (divSteps fa div); expansions = counted expansion (divSteps fa div); sum = sumFrom sum (divSteps fa div) })
-diversified-same fa div sum rows out count s₁ s₂ l qr qo qc q₁ q₂ =
-    let eleven : 11 ≡ length fa / 4 + 7 = omega arith in
-    let o : out ≡ aesUnder fa div = qo ∙ ap (λ (n : ℕ). cipherBy (take n rows) div) eleven ∙ ap (λ (f : List ℕ → List ℕ). f div) (lent-aes fa qr) in
-    let s : s₂ ≡ sumFrom sum (divSteps fa div) = q₂ ∙ ap₂ (λ (x : ℕ) (y : List ℕ). mixedAll x (bytesOf (record { kind = encipherment; key = fa; input = div; output = y }))) q₁ o in
-    λ i. record { key = o i; encipherments = 1; expansions = qc i; sum = s i }
+pub derived-same : (fa div : List ℕ) (sum : ℕ) (e : Expanded) (k : Diversified) → e ≡ expanded fa sum →
+    k ≡ record { key = wide (diversifiedBy fa div); count = counted encipherment (diversifySteps fa div); sum = sumFrom (e .sum) (diversifySteps fa div) } →
+    _≡_ {A = Derived} (record { key = k .key; encipherments = k .count; expansions = e .count; sum = k .sum }) (derived fa div sum)
+derived-same fa div sum e k qe qk =
+    let key : k .key ≡ wide (diversifiedBy fa div) = ap (λ (r : Diversified). r .key) qk in
+    let n₁ : k .count ≡ counted encipherment (divSteps fa div) = omega (arith, ap (λ (r : Diversified). r .count) qk) in
+    let n₂ : e .count ≡ counted expansion (divSteps fa div) = ap (λ (r : Expanded). r .count) qe ∙ sym (div-expansions fa div) in
+    let s : k .sum ≡ sumFrom sum (divSteps fa div) = ap (λ (r : Diversified). r .sum) qk ∙ ap (λ (r : Expanded). sumFrom (r .sum) (diversifySteps fa div)) qe in
+    λ i. record { key = key i; encipherments = n₁ i; expansions = n₂ i; sum = s i }
 
 -- the text: z are the zero bytes, t them with the bytes of d that are deciphered, y those bytes afterwards
 pub deciphered-same : (key d z t y : List ℕ) (inv : List ℕ → List ℕ) (n sum : ℕ) (m : Made) → n ≡ 16 * blocksIn d →
@@ -66,41 +73,43 @@ deciphered-same key d z t y inv n sum m e qt qm qy =
     λ i. record { text = p i; count = q i .count; sum = q i .sum }
 
 -- up to the hash
-pub opened-same : (c : Card) (d fa rnd hash : List ℕ) (k : Diversified) (e : Expanded) (t : Deciphered) (h : Hashing) →
-    fa ≡ faKeyOf c →
-    k ≡ record { key = aesUnder fa (c .«div_data»); encipherments = counted encipherment (divSteps fa (c .«div_data»)); expansions = counted expansion (divSteps fa (c .«div_data»)); sum = sumFrom 0 (divSteps fa (c .«div_data»)) } →
-    e ≡ record { rows = fifteen (length (k .key) / 4) (k .key); count = counted expansion (expansionStep (k .key) ∷ []); sum = sumFrom (k .sum) (expansionStep (k .key) ∷ []) } →
-    t ≡ record { text = over (replicate 240 0) 0 (decrypted (invAesUnder (k .key)) zeros (blocksIn d) d); count = counted decipherment (deciphered (k .key) (invAesUnder (k .key)) (blocksIn d) d); sum = sumFrom (e .sum) (deciphered (k .key) (invAesUnder (k .key)) (blocksIn d) d) } →
-    rnd ≡ cond (c .session .opened) (c .session .rnd1) zeros →
-    h ≡ record { digest = sha256 (rnd ++ part (t .text) 2 16); count = counted hashBlock (hashSteps (rnd ++ part (t .text) 2 16)); sum = sumFrom (t .sum) (hashSteps (rnd ++ part (t .text) 2 16)) } →
-    hash ≡ part (h .digest) 0 16 →
-    _≡_ {A = Opened} (record { text = t .text; hash = hash; decipherments = t .count; encipherments = k .encipherments; expansions = k .expansions + e .count; «hash_blocks» = h .count; sum = h .sum }) (openedText c d)
-unfolding diversified textOf rnd1Of hashedOf keysHash textSteps
-opened-same c d fa rnd hash k e t h qfa qk qe qt qrnd qh qhash =
+pub opened-same : (c : Card) (d fa rnd : List ℕ) (l : ℕ) (k : Derived) (e : Expanded) (t : Deciphered) (h : Hashing) → l ≡ keyLengthOf c → length fa ≡ 32 → length rnd ≡ 32 →
+    fa ≡ cond (c .session .opened) (keyOf (c .sets) (c .session .id) (c .«shill_key»)) (c .«shill_key») →
+    k ≡ derived (take l fa) (c .«div_data») 0 →
+    e ≡ expanded (take l (k .key)) (k .sum) →
+    t ≡ decipheredUnder (take l (k .key)) d (e .sum) →
+    rnd ≡ cond (c .session .opened) (c .session .rnd1) (replicate 32 0) →
+    h ≡ hashing (take l rnd ++ part (t .text) 2 (length (take l rnd))) (t .sum) →
+    _≡_ {A = Opened} (record { text = t .text; digest = h .digest; decipherments = t .count; encipherments = k .encipherments; expansions = k .expansions + e .count; «hash_blocks» = h .count; sum = h .sum }) (openedText c d)
+unfolding textOf hashedOf textSteps
+opened-same c d fa rnd l k e t h ql lf lr qfa qk qe qt qrnd qh =
     let div : List ℕ = c .«div_data» in
-    let key : k .key ≡ diversified c = ap (λ (r : Diversified). r .key) qk ∙ ap (λ (x : List ℕ). aesUnder x div) qfa in
-    let s₁ : k .sum ≡ sumFrom 0 (divSteps (faKeyOf c) div) = ap (λ (r : Diversified). r .sum) qk ∙ ap (λ (x : List ℕ). sumFrom 0 (divSteps x div)) qfa in
-    let s₂ : e .sum ≡ sumFrom (sumFrom 0 (divSteps (faKeyOf c) div)) (expansionStep (diversified c) ∷ []) =
-    ap (λ (r : Expanded). r .sum) qe ∙ ap₂ (λ (s : ℕ) (x : List ℕ). sumFrom s (expansionStep x ∷ [])) s₁ key in
-    let text : t .text ≡ textOf c d = ap (λ (r : Deciphered). r .text) qt ∙ ap (λ (x : List ℕ). over (replicate 240 0) 0 (decrypted (invAesUnder x) zeros (blocksIn d) d)) key in
-    let made : deciphered (k .key) (invAesUnder (k .key)) (blocksIn d) d ≡ deciphered (diversified c) (invAesUnder (diversified c)) (blocksIn d) d =
-    ap (λ (x : List ℕ). deciphered x (invAesUnder x) (blocksIn d) d) key in
-    let m : rnd ++ part (t .text) 2 16 ≡ hashedOf c d = ap₂ (λ (x y : List ℕ). x ++ part y 2 16) qrnd text in
+    let first : take l fa ≡ faKeyOf c = faKey-is c fa l ql qfa in
+    let k′ : k ≡ derived (faKeyOf c) div 0 = qk ∙ ap (λ (x : List ℕ). derived x div 0) first in
+    let key : take l (k .key) ≡ diversified c = diversified-is c fa l ql qfa (k .key) lf (ap (λ (r : Derived). r .key) k′) in
+    let s₁ : k .sum ≡ sumFrom 0 (divSteps (faKeyOf c) div) = ap (λ (r : Derived). r .sum) k′ in
+    let e′ : e ≡ expanded (diversified c) (sumFrom 0 (divSteps (faKeyOf c) div)) = qe ∙ ap₂ expanded key s₁ in
+    let t′ : t ≡ decipheredUnder (diversified c) d (sumFrom (sumFrom 0 (divSteps (faKeyOf c) div)) (expansionStep (diversified c) ∷ [])) =
+    qt ∙ ap₂ (λ (x : List ℕ) (s : ℕ). decipheredUnder x d s) key (ap (λ (r : Expanded). r .sum) e′) in
+    let text : t .text ≡ textOf c d = ap (λ (r : Deciphered). r .text) t′ in
+    let n : length (take l rnd) ≡ keyLengthOf c = length-first (c .«key_length») rnd ql lr ∙ ql in
+    let m : take l rnd ++ part (t .text) 2 (length (take l rnd)) ≡ hashedOf c d = λ i. rnd1-is c rnd l ql qrnd i ++ part (text i) 2 (n i) in
+    let made : List Step = deciphered (diversified c) (invAesUnder (diversified c)) (blocksIn d) d in
+    let h′ : h ≡ hashing (hashedOf c d) (sumFrom (sumFrom (sumFrom 0 (divSteps (faKeyOf c) div)) (expansionStep (diversified c) ∷ [])) made) =
+    qh ∙ ap₂ hashing m (ap (λ (r : Deciphered). r .sum) t′) in
     let s₄ : h .sum ≡ sumFrom 0 (textSteps c d) =
-    ap (λ (r : Hashing). r .sum) qh
-    ∙ ap₂ (λ (s : ℕ) (x : List ℕ). sumFrom s (hashSteps x)) (ap (λ (r : Deciphered). r .sum) qt ∙ ap₂ sumFrom s₂ made) m
-    ∙ sym (sum-four 0 (divSteps (faKeyOf c) div) (expansionStep (diversified c) ∷ []) (deciphered (diversified c) (invAesUnder (diversified c)) (blocksIn d) d) (hashSteps (hashedOf c d))) in
-    let digest : hash ≡ keysHash c d = qhash ∙ ap (λ (x : List ℕ). part x 0 16) (ap (λ (r : Hashing). r .digest) qh ∙ ap sha256 m) in
-    let n₁ : t .count ≡ counted decipherment (textSteps c d) = ap (λ (r : Deciphered). r .count) qt ∙ ap (counted decipherment) made ∙ text-decipherments c d in
-    let n₂ : k .encipherments ≡ counted encipherment (textSteps c d) = ap (λ (r : Diversified). r .encipherments) qk ∙ sym (text-encipherments c d) in
+    ap (λ (r : Hashing). r .sum) h′ ∙ sym (sum-four 0 (divSteps (faKeyOf c) div) (expansionStep (diversified c) ∷ []) made (hashSteps (hashedOf c d))) in
+    let digest : h .digest ≡ sha256 (hashedOf c d) = ap (λ (r : Hashing). r .digest) h′ in
+    let n₁ : t .count ≡ counted decipherment (textSteps c d) = ap (λ (r : Deciphered). r .count) t′ ∙ text-decipherments c d in
+    let n₂ : k .encipherments ≡ counted encipherment (textSteps c d) = omega (arith, ap (λ (r : Derived). r .encipherments) k′, counted-diversify encipherment (faKeyOf c) div, text-encipherments c d) in
     let n₃ : k .expansions + e .count ≡ counted expansion (textSteps c d) =
-    ap₂ _+_ (ap (λ (r : Diversified). r .expansions) qk) (ap (λ (r : Expanded). r .count) qe) ∙ sym (text-expansions c d) in
-    let n₄ : h .count ≡ counted hashBlock (textSteps c d) = ap (λ (r : Hashing). r .count) qh ∙ ap (λ (x : List ℕ). counted hashBlock (hashSteps x)) m ∙ text-hash-blocks c d in
-    λ i. record { text = text i; hash = digest i; decipherments = n₁ i; encipherments = n₂ i; expansions = n₃ i; «hash_blocks» = n₄ i; sum = s₄ i }
+    omega (arith, ap (λ (r : Derived). r .expansions) k′, div-expansions (faKeyOf c) div, ap (λ (r : Expanded). r .count) e′, text-expansions c d) in
+    let n₄ : h .count ≡ counted hashBlock (textSteps c d) = ap (λ (r : Hashing). r .count) h′ ∙ text-hash-blocks c d in
+    λ i. record { text = text i; digest = digest i; decipherments = n₁ i; encipherments = n₂ i; expansions = n₃ i; «hash_blocks» = n₄ i; sum = s₄ i }
 
 -- behind the verdict: `buffer` is the reply text of so many blocks in its buffer b, and y the front of b enciphered
 module _ (key key′ b y o o′ : List ℕ) (size size′ n sum : ℕ) (buffer : ℕ → List ℕ) (e : Expanded) (m : Made)
-    (qk : key ≡ key′) (qe : e ≡ record { rows = fifteen (length key / 4) key; count = counted expansion (expansionStep key ∷ []); sum = sumFrom sum (expansionStep key ∷ []) })
+    (qk : key ≡ key′) (qe : e ≡ expanded key sum)
     (qs : size ≡ size′) (qb : b ≡ buffer size) (long : length b ≡ 96) (most : size ≤ 6) (qn : n ≡ 16 * size) where
   within : n ≤ length b
   within = omega arith
@@ -158,9 +167,9 @@ module _ (c : Card) (d fresh : List ℕ) where
   no-modes : (k : ℕ) → eqb comparison k ≡ false → counted k (modeSteps (opMode (textOf c d)) (c .modes)) ≡ 0
   no-modes k h = counted-modes k (opMode (textOf c d)) (c .modes) ∙ rw h (omega arith)
 
-  module _ (o : Opened) (w : OpModeId) (f : Found) (ok : Bool) (mode : ModeSlot) (s : Sent) (qo : o ≡ openedText c d) (qw : w ≡ opMode (o .text))
+  module _ (o : Opened) (l : ℕ) (w : OpModeId) (f : Found) (ok : Bool) (mode : ModeSlot) (s : Sent) (qo : o ≡ openedText c d) (ql : l ≡ keyLengthOf c) (qw : w ≡ opMode (o .text))
       (qf : f ≡ record { at = firstMode 0 w (c .modes); count = counted comparison (modeSteps w (c .modes)); sum = sumFrom (o .sum) (modeSteps w (c .modes)) })
-      (qok : ok ≡ accepting (c .session .opened) (length d) (part (o .text) 0 (16 * (length d / 16))) (o .hash) (f .at))
+      (qok : ok ≡ accepting (length (take l (o .digest))) (c .session .opened) (length d) (part (o .text) 0 (16 * (length d / 16))) (take l (o .digest)) (f .at))
       (qm : mode ≡ getD (c .modes) (f .at) noMode) where
     value-is : w ≡ opMode (textOf c d)
     value-is = qw ∙ ap (λ (r : Opened). opMode (r .text)) qo
@@ -169,20 +178,29 @@ module _ (c : Card) (d fresh : List ℕ) where
     unfolding modeOf
     at-is = ap (λ (r : Found). r .at) qf ∙ ap (λ (x : OpModeId). firstMode 0 x (c .modes)) value-is
 
+    hash-is : take l (o .digest) ≡ keysHash c d
+    unfolding keysHash part
+    hash-is = λ i. take (ql i) (qo i .digest)
+
+    hash-long : length (take l (o .digest)) ≡ keyLengthOf c
+    hash-long = ap length hash-is ∙ length-keysHash c d
+
     ok-is : ok ≡ acceptsFinal c d
     unfolding acceptsFinal decipheredText
-    ok-is = qok ∙ ap₂ (λ (r : Opened) (i : ℕ). accepting (c .session .opened) (length d) (part (r .text) 0 (16 * (length d / 16))) (r .hash) i) qo at-is
+    ok-is = qok ∙ (λ i. accepting (hash-long i) (c .session .opened) (length d) (part (qo i .text) 0 (16 * (length d / 16))) (hash-is i) (at-is i))
 
-    key-is : cond ok (o .hash) (c .«shill_key») ≡ replyKey c d
-    unfolding replyKey
-    key-is = ap₂ (λ (t : Bool) (r : Opened). cond t (r .hash) (c .«shill_key»)) ok-is qo
+    key-is : held (keyLengthOf c) (cond ok (o .digest) (c .«shill_key»)) ≡ replyKey c d
+    unfolding replyKey keysHash
+    key-is =
+        ap₂ (λ (t : Bool) (r : Opened). held (keyLengthOf c) (cond t (r .digest) (c .«shill_key»))) ok-is qo
+        ∙ held-choice (acceptsFinal c d) (keyLengthOf c) (sha256 (hashedOf c d)) (c .«shill_key»)
 
     buffer-same : bufferOf (replyText ok (c .area) mode (c .«div_data») fresh (sizeOf c)) ≡ replyBuffer c d fresh
     unfolding bufferOf replyBuffer
     buffer-same =
         ap₂ (λ (t : Bool) (x : ModeSlot). over (replicate 96 0) 0 (replyText t (c .area) x (c .«div_data») fresh (sizeOf c))) ok-is (qm ∙ ap (λ (i : ℕ). getD (c .modes) i noMode) at-is)
 
-    pub final-told : s ≡ sent (cond ok (o .hash) (c .«shill_key»)) (sizeOf c) (bufferOf (replyText ok (c .area) mode (c .«div_data») fresh (sizeOf c))) (f .sum) →
+    pub final-told : s ≡ sent (held (keyLengthOf c) (cond ok (o .digest) (c .«shill_key»))) (sizeOf c) (bufferOf (replyText ok (c .area) mode (c .«div_data») fresh (sizeOf c))) (f .sum) →
         _≡_ {A = Final}
         (record {
           comparisons = f .count;
@@ -215,7 +233,7 @@ module _ (c : Card) (d fresh : List ℕ) where
         λ i. record { comparisons = n₁ i; decipherments = n₂ i; encipherments = n₃ i; expansions = n₄ i; «hash_blocks» = n₅ i; length = l i; sum = t i }
 
     pub final-bytes : (out out′ : List ℕ) →
-        out′ ≡ over out 0 (encrypted (aesUnder (cond ok (o .hash) (c .«shill_key»))) zeros (sizeOf c) (bufferOf (replyText ok (c .area) mode (c .«div_data») fresh (sizeOf c)))) →
+        out′ ≡ over out 0 (encrypted (aesUnder (held (keyLengthOf c) (cond ok (o .digest) (c .«shill_key»)))) zeros (sizeOf c) (bufferOf (replyText ok (c .area) mode (c .«div_data») fresh (sizeOf c)))) →
         out′ ≡ over out 0 (finalReply c d fresh .bytes)
     unfolding finalReply finalBytes
     final-bytes out out′ q = q ∙ ap₂ (λ (x y : List ℕ). over out 0 (encrypted (aesUnder x) zeros (sizeOf c) y)) key-is buffer-same

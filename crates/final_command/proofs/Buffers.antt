@@ -1,11 +1,11 @@
 -- A buffer that a text is written over the front of: its front, what writing behind the text or over it gives, and padding in it.
 -- Assumes nothing.
 use mathlib.Core.Path.{_≡_, sym, ap, ap₂, _∙_}
-use mathlib.Core.List.{List, _++_, append-nil}
+use mathlib.Core.List.{List, _++_}
 use Prim.Native.Nat.{ℕ, _+_, _-_, _*_, _≤_}
 use native.Mathlib.Omega.{arith}
 use borrow.Author.Tests.{le-leb}
-use lib.ListN.{length, take, drop, length-append, drop-of-length-le}
+use lib.ListN.{length, take, drop, length-append}
 use lib.Seq.{drop-append-add, drop-drop, length-take-le, length-front}
 use Rattle.octets.specs.Lists.{over, length-over}
 use Rattle.octets.specs.Writes.{over-front, take-over}
@@ -39,13 +39,11 @@ over-behind d s t n e =
     ap₂ (λ (x y : List ℕ). x ++ t ++ y) (take-over d s n e) (drop-behind d s (n + length t) (omega arith))
     ∙ ap (λ (i : ℕ). s ++ t ++ drop i d) m
 
--- two texts that fill the buffer
-pub over-both : (d s t : List ℕ) (n : ℕ) → length s ≡ n → length d ≡ n + length t → over (over d 0 s) n t ≡ s ++ t
-over-both d s t n e f =
-    over-behind d s t n e
-    ∙ over-front d (s ++ t)
-    ∙ ap (λ (x : List ℕ). s ++ t ++ x) (drop-of-length-le d {i = length (s ++ t)} (omega (arith, length-append s t)))
-    ∙ append-nil (s ++ t)
+-- two texts, one behind the other, as the first k bytes of a buffer
+pub front-both : (d s t : List ℕ) (n k : ℕ) {e e′ t′ : List ℕ} → length s ≡ n → n + length t ≡ k → e ≡ over d 0 s → t′ ≡ t → e′ ≡ over e n t′ → take k e′ ≡ s ++ t
+front-both d s t n k l m q r q′ =
+    ap (take k) (q′ ∙ ap₂ (λ (x y : List ℕ). over x n y) q r ∙ over-behind d s t n l)
+    ∙ take-over d (s ++ t) k (length-append s t ∙ omega arith)
 
 -- a text and its end, padded
 pub over-padded : (d s t : List ℕ) (n m : ℕ) → length s ≡ n → length t ≡ 16 → m ≡ n + 16 → 16 * blocksFor m ≤ length d →

@@ -2,9 +2,10 @@
 use mathlib.Core.Path.{_≡_, refl, sym, ap, _∙_}
 use mathlib.Core.Bool.{Bool, true, false, cond}
 use mathlib.Core.List.{List, [], _∷_, _++_}
-use Prim.Native.Nat.{ℕ, _+_, _≤_}
+use Prim.Native.Nat.{ℕ, _+_, _*_, _≤_}
 use native.Mathlib.Omega.{arith}
-use lib.Dec.{ltb}
+use lib.Dec.{eqb, ltb}
+use lib.ListN.{length}
 use borrow.Author.Tests.{ltb-true}
 use Rattle.aes.specs.Aes.{aesUnder, invAesUnder}
 use Rattle.work.specs.Steps.{Step, comparison, decipherment, encipherment, expansion, hashBlock, counted, sumFrom}
@@ -14,6 +15,8 @@ use Rattle.cbc.specs.Laws.{counted-enciphered, other-enciphered, other-decipher
 use Rattle.cbc.specs.Cbc.{zeros}
 use Rattle.steps.specs.Made.{expansionStep, hashSteps}
 use Rattle.steps.specs.Laws.{counted-hash}
+use Rattle.diversification.specs.Diversification.{diversifySteps}
+use Rattle.diversification.specs.Laws.{encipherments, counted-diversify}
 use Rattle.plaid_types.specs.declared.Card.{Card}
 use Rattle.final_command.specs.Final.{faKeyOf, diversified, blocksIn, hashedOf, sizeOf}
 use Rattle.final_command.specs.Parts.{divSteps, textSteps, replySteps}
@@ -28,6 +31,9 @@ count-four k a b c d =
     counted-append k (a ++ b ++ c) d
     ∙ ap (λ (x : ℕ). x + counted k d) (counted-append k (a ++ b) c ∙ ap (λ (x : ℕ). x + counted k c) (counted-append k a b))
 
+pub div-expansions : (fa div : List ℕ) → counted expansion (divSteps fa div) ≡ 1
+div-expansions fa div = omega (arith, counted-diversify expansion fa div)
+
 -- the steps up to the hash
 module _ (c : Card) (d : List ℕ) where
   text-count : (k : ℕ) →
@@ -38,23 +44,26 @@ module _ (c : Card) (d : List ℕ) where
   text-count k =
       count-four k (divSteps (faKeyOf c) (c .«div_data»)) (expansionStep (diversified c) ∷ []) (deciphered (diversified c) (invAesUnder (diversified c)) (blocksIn d) d) (hashSteps (hashedOf c d))
 
+  divs : (k : ℕ) → counted k (diversifySteps (faKeyOf c) (c .«div_data»)) ≡ encipherments (length (faKeyOf c)) * cond (eqb encipherment k) 1 0
+  divs k = counted-diversify k (faKeyOf c) (c .«div_data»)
+
   no-decipherments : (k : ℕ) → (decipherment ≡ k → ⊥) → counted k (deciphered (diversified c) (invAesUnder (diversified c)) (blocksIn d) d) ≡ 0
   no-decipherments k h = other-deciphered (diversified c) (invAesUnder (diversified c)) k (blocksIn d) d h
 
   pub text-comparisons : counted comparison (textSteps c d) ≡ 0
-  text-comparisons = text-count comparison ∙ omega (arith, no-decipherments comparison (λ e. omega arith), counted-hash comparison (hashedOf c d))
+  text-comparisons = text-count comparison ∙ omega (arith, divs comparison, no-decipherments comparison (λ e. omega arith), counted-hash comparison (hashedOf c d))
 
   pub text-decipherments : counted decipherment (deciphered (diversified c) (invAesUnder (diversified c)) (blocksIn d) d) ≡ counted decipherment (textSteps c d)
-  text-decipherments = sym (text-count decipherment ∙ omega (arith, counted-hash decipherment (hashedOf c d)))
+  text-decipherments = sym (text-count decipherment ∙ omega (arith, divs decipherment, counted-hash decipherment (hashedOf c d)))
 
-  pub text-encipherments : counted encipherment (textSteps c d) ≡ 1
-  text-encipherments = text-count encipherment ∙ omega (arith, no-decipherments encipherment (λ e. omega arith), counted-hash encipherment (hashedOf c d))
+  pub text-encipherments : counted encipherment (textSteps c d) ≡ encipherments (length (faKeyOf c))
+  text-encipherments = text-count encipherment ∙ omega (arith, divs encipherment, no-decipherments encipherment (λ e. omega arith), counted-hash encipherment (hashedOf c d))
 
   pub text-expansions : counted expansion (textSteps c d) ≡ 2
-  text-expansions = text-count expansion ∙ omega (arith, no-decipherments expansion (λ e. omega arith), counted-hash expansion (hashedOf c d))
+  text-expansions = text-count expansion ∙ omega (arith, divs expansion, no-decipherments expansion (λ e. omega arith), counted-hash expansion (hashedOf c d))
 
   pub text-hash-blocks : counted hashBlock (hashSteps (hashedOf c d)) ≡ counted hashBlock (textSteps c d)
-  text-hash-blocks = sym (text-count hashBlock ∙ omega (arith, no-decipherments hashBlock (λ e. omega arith)))
+  text-hash-blocks = sym (text-count hashBlock ∙ omega (arith, divs hashBlock, no-decipherments hashBlock (λ e. omega arith)))
 
 -- the steps behind the verdict
 module _ (key : List ℕ) (n : ℕ) (b : List ℕ) where
@@ -79,6 +88,13 @@ module _ (key : List ℕ) (n : ℕ) (b : List ℕ) where
 
   pub reply-hash-blocks : counted hashBlock (replySteps key n b) ≡ 0
   reply-hash-blocks = reply-count hashBlock ∙ omega (arith, no-encipherments hashBlock (λ e. omega arith))
+
+encipherments-by : (t : Bool) → cond t 2 1 ≤ 2
+encipherments-by true = omega arith
+encipherments-by false = omega arith
+
+pub encipherments-most : (l : ℕ) → encipherments l ≤ 2
+encipherments-most l = encipherments-by (ltb 16 l)
 
 size-by : (n : ℕ) (t : Bool) → ltb n 6 ≡ t → cond t n 6 ≤ 6
 size-by n true e = omega (arith, ltb-true n 6 e)

@@ -1,4 +1,4 @@
--- Document 01, "Final", with T-01 of document 02.
+-- Document 01, "Final", with T-01 and T-04 of document 02.
 use mathlib.Core.Bool.{Bool, true, cond, _&&_}
 use mathlib.Core.List.{List, [], _∷_, _++_}
 use Prim.Native.Nat.{ℕ, suc, _+_, _-_, _*_, _/_, _%_}
@@ -11,8 +11,10 @@ use Rattle.sha_block.specs.Hash.{sha256}
 use Rattle.padding.specs.Method2.{padded, end, rightly}
 use Rattle.work.specs.Steps.{Step}
 use Rattle.cbc.specs.Cbc.{encrypted, decrypted, zeros}
-use Rattle.cbc.specs.Steps.{encipherStep, enciphered, deciphered}
+use Rattle.cbc.specs.Steps.{enciphered, deciphered}
 use Rattle.steps.specs.Made.{setMatched, modeMatched, modeComparison, expansionStep, hashSteps}
+use Rattle.diversification.specs.Diversification.{diversifiedBy, diversifySteps}
+use Rattle.plaid_types.specs.Keys.{keyLengthOf, held}
 use Rattle.plaid_types.specs.Cards.{noSession, noMode, Reply}
 use Rattle.plaid_types.specs.declared.KeySetId.{KeySetId}
 use Rattle.plaid_types.specs.declared.OpModeId.{OpModeId}
@@ -23,21 +25,22 @@ use Rattle.plaid_types.specs.declared.Card.{Card}
 abbrev pub least : ℕ → ℕ → ℕ
 least a b = cond (ltb a b) a b
 
--- the FAKey of a KeySetID. A session's is always held; `other` stands for one that is not
+-- the FAKey of a KeySetID, in the first of 32 bytes. A session's is always held; `other` stands for one that is not
 unfoldable pub keyOf : List KeySetSlot → KeySetId → List ℕ → List ℕ
 keyOf [] id other = other
 keyOf (k ∷ ks) id other = cond (setMatched true id (k .held) (k .id)) (k .«fa_key») (keyOf ks id other)
 
--- "With no session the shill AES key stands for FAKey and zeros for RND1."
+-- "With no session the shill AES key stands for FAKey and zeros for RND1." T-04: "A card and its reader have one key length L. RND1, RND2 and
+-- KeysHash have L bytes each"
 unfoldable pub faKeyOf : Card → List ℕ
-faKeyOf c = cond (c .session .opened) (keyOf (c .sets) (c .session .id) (c .«shill_key»)) (c .«shill_key»)
+faKeyOf c = held (keyLengthOf c) (cond (c .session .opened) (keyOf (c .sets) (c .session .id) (c .«shill_key»)) (c .«shill_key»))
 
 unfoldable pub rnd1Of : Card → List ℕ
-rnd1Of c = cond (c .session .opened) (c .session .rnd1) zeros
+rnd1Of c = cond (c .session .opened) (held (keyLengthOf c) (c .session .rnd1)) (replicate (keyLengthOf c) 0)
 
 -- "encipher DivData, giving the diversified key"
 unfoldable pub diversified : Card → List ℕ
-diversified c = aesUnder (faKeyOf c) (c .«div_data»)
+diversified c = diversifiedBy (faKeyOf c) (c .«div_data»)
 
 -- "n = floor(Lc/16)"
 abbrev pub blocksIn : List ℕ → ℕ
@@ -47,13 +50,13 @@ blocksIn d = length d / 16
 unfoldable pub textOf : Card → List ℕ → List ℕ
 textOf c d = over (replicate 240 0) 0 (decrypted (invAesUnder (diversified c)) zeros (blocksIn d) d)
 
--- "hash RND1 and bytes 2 to 17 of these, counted from 0"
+-- "hash RND1 and bytes 2 to 17 of these, counted from 0". T-04: RND2, which they are, has L bytes
 unfoldable pub hashedOf : Card → List ℕ → List ℕ
-hashedOf c d = rnd1Of c ++ part (textOf c d) 2 16
+hashedOf c d = rnd1Of c ++ part (textOf c d) 2 (keyLengthOf c)
 
--- "KeysHash is the first 16 bytes of the hash."
+-- "KeysHash is the first 16 bytes of the hash." T-04: "SHA-256 output is cut to L"
 unfoldable pub keysHash : Card → List ℕ → List ℕ
-keysHash c d = part (sha256 (hashedOf c d)) 0 16
+keysHash c d = part (sha256 (hashedOf c d)) 0 (keyLengthOf c)
 
 -- "compare bytes 0 and 1 with sixteen mode slots (an empty one never matches)"
 unfoldable pub opMode : List ℕ → OpModeId
@@ -76,18 +79,19 @@ unfoldable pub decipheredText : Card → List ℕ → List ℕ
 decipheredText c d = part (textOf c d) 0 (16 * blocksIn d)
 
 -- the six conditions on a text s of whole blocks: "a session is open, Lc is a multiple of 16, the first 16n bytes are rightly padded,
--- the unpadded text has at least 34 bytes, its last 16 equal KeysHash, and the mode is held" (its slot is below sixteen)
-unfoldable pub accepting : Bool → ℕ → List ℕ → List ℕ → ℕ → Bool
-accepting opened lc s hash mode =
-    opened && (eqb (lc % 16) 0 && (rightly s && (leb 34 (end s - 1) && (same (part s (end s - 1 - 16) 16) hash && ltb mode 16))))
+-- the unpadded text has at least 34 bytes, its last 16 equal KeysHash, and the mode is held" (its slot is below sixteen). T-04: "the shortest text
+-- has 2 + 2L bytes", and KeysHash has L
+unfoldable pub accepting : ℕ → Bool → ℕ → List ℕ → List ℕ → ℕ → Bool
+accepting l opened lc s hash mode =
+    opened && (eqb (lc % 16) 0 && (rightly s && (leb (2 + 2 * l) (end s - 1) && (same (part s (end s - 1 - l) l) hash && ltb mode 16))))
 
 -- "Accepted exactly when .."
 unfoldable pub acceptsFinal : Card → List ℕ → Bool
-acceptsFinal c d = accepting (c .session .opened) (length d) (decipheredText c d) (keysHash c d) (modeOf c d)
+acceptsFinal c d = accepting (keyLengthOf c) (c .session .opened) (length d) (decipheredText c d) (keysHash c d) (modeOf c d)
 
 -- "expand the reply key": KeysHash, or the shill key
 unfoldable pub replyKey : Card → List ℕ → List ℕ
-replyKey c d = cond (acceptsFinal c d) (keysHash c d) (c .«shill_key»)
+replyKey c d = cond (acceptsFinal c d) (keysHash c d) (held (keyLengthOf c) (c .«shill_key»))
 
 -- the record of a mode: a part of the record area, of at most 64 bytes
 unfoldable pub recordOf : List ℕ → ModeSlot → List ℕ
@@ -114,10 +118,11 @@ unfoldable pub finalBytes : Card → List ℕ → List ℕ → List ℕ
 finalBytes c d fresh = encrypted (aesUnder (replyKey c d)) zeros (sizeOf c) (replyBuffer c d fresh)
 
 -- "Steps, always all: expand FAKey; encipher DivData ..; expand it; decipher n blocks ..; hash ..; compare ..; expand the reply key; encipher B blocks."
+-- T-04: "One encipherment more is made for L over 16, directly after the first."
 unfoldable pub finalSteps : Card → List ℕ → List ℕ → List Step
 finalSteps c d fresh =
     (expansionStep (faKeyOf c) ∷ []) ++
-    (encipherStep (faKeyOf c) (aesUnder (faKeyOf c)) (c .«div_data») ∷ []) ++
+    diversifySteps (faKeyOf c) (c .«div_data») ++
     (expansionStep (diversified c) ∷ []) ++
     deciphered (diversified c) (invAesUnder (diversified c)) (blocksIn d) d ++
     hashSteps (hashedOf c d) ++

@@ -2,30 +2,38 @@
 use mathlib.Core.Path.{_≡_, refl, ap, _∙_}
 use mathlib.Core.Bool.{Bool, true, false, cond}
 use mathlib.Core.List.{List, [], _∷_}
-use Prim.Native.Nat.{ℕ, zero, suc, _+_, _-_, _*_, _/_, _≤_}
+use Prim.Native.Nat.{ℕ, zero, suc, _+_, _-_, _*_, _/_, _%_, _≤_}
 use native.Mathlib.Omega.{arith}
 use lib.Dec.{eqb, ltb}
-use lib.ListN.{length, replicate, take, drop, length-append, length-drop, length-replicate}
+use lib.ListN.{length, getD, replicate, take, drop, length-append, length-drop, length-replicate}
 use lib.Seq.{take-at}
 use borrow.Author.Tests.{ltb-false}
 use Rattle.octets.specs.Bytes.{Bytes}
 use Rattle.octets.specs.ByteLists.{append-bytes, zeros-bytes}
 use Rattle.octets.specs.Lists.{part, over, table, length-part}
+use Rattle.key_expansion.specs.KeyLength.{each-length}
 use Rattle.aes.specs.Aes.{aesUnder, invAesUnder}
 use Rattle.aes.specs.RoundTrip.{length-aes}
 use Rattle.padding.specs.Method2.{blocksFor}
 use Rattle.sha_padding.specs.Parsing.{blocks}
+use Rattle.sha_padding.specs.PaddingLaws.{blocks-count}
+use Rattle.sha_block.specs.Hash.{sha256, length-sha256}
 use Rattle.work.specs.Steps.{comparison, decipherment, encipherment, expansion, hashBlock, counted}
 use Rattle.work.specs.Laws.{counted-append, times-none, times-more}
 use Rattle.cbc.specs.Cbc.{decrypted, zeros}
 use Rattle.cbc.specs.Steps.{enciphered, deciphered}
 use Rattle.cbc.specs.Lengths.{length-encrypted}
-use Rattle.steps.specs.Made.{hashStep, hashSteps}
-use Rattle.steps.specs.Laws.{blocks-one}
+use Rattle.steps.specs.Made.{setMatched, hashStep, hashSteps}
+use Rattle.diversification.specs.Laws.{encipherments, counted-diversify}
+use Rattle.plaid_types.specs.Keys.{keyLengthOf, held}
+use Rattle.plaid_types.specs.KeyLaws.{lawful-one, lawful-most, length-held}
+use Rattle.plaid_types.specs.Cards.{noSet}
+use Rattle.plaid_types.specs.declared.KeySetId.{KeySetId}
+use Rattle.plaid_types.specs.declared.KeySetSlot.{KeySetSlot}
 use Rattle.plaid_types.specs.declared.OpModeId.{OpModeId}
 use Rattle.plaid_types.specs.declared.ModeSlot.{ModeSlot}
 use Rattle.plaid_types.specs.declared.Card.{Card}
-use Rattle.final_command.specs.Final.{rnd1Of, diversified, blocksIn, textOf, hashedOf, modeSteps, replyKey, sizeOf, bodyOf, replyBuffer, finalBytes, finalSteps, finalReply}
+use Rattle.final_command.specs.Final.{keyOf, faKeyOf, rnd1Of, diversified, blocksIn, textOf, hashedOf, keysHash, modeSteps, replyKey, sizeOf, bodyOf, replyBuffer, finalBytes, finalSteps, finalReply}
 
 -- "Answer length: .. 16B"
 pub final-length : (c : Card) (d fresh : List ℕ) → length (finalReply c d fresh .bytes) ≡ 16 * sizeOf c
@@ -81,51 +89,90 @@ counted-modes k v (m ∷ ms) = ap (λ (n : ℕ). of-kind comparison k + n) (coun
 
 counted-final : (k : ℕ) (c : Card) (d fresh : List ℕ) →
     counted k (finalSteps c d fresh) ≡
-    of-kind expansion k + of-kind encipherment k + of-kind expansion k + blocksIn d * of-kind decipherment k + blocks (hashedOf c d) * of-kind hashBlock k
+    of-kind expansion k + encipherments (length (faKeyOf c)) * of-kind encipherment k + of-kind expansion k + blocksIn d * of-kind decipherment k + blocks (hashedOf c d) * of-kind hashBlock k
     + length (c .modes) * of-kind comparison k + of-kind expansion k + sizeOf c * of-kind encipherment k
 unfolding finalSteps hashSteps
 counted-final k c d fresh =
-    simp (counted-append, counted-deciphered, counted-hash, counted-modes, counted-enciphered) (omega arith)
+    simp (counted-append, counted-diversify, counted-deciphered, counted-hash, counted-modes, counted-enciphered) (omega arith)
 
 length-over-most : (d s : List ℕ) → length d ≤ length (over d 0 s)
 unfolding over
 length-over-most d s = omega (arith, length-append s (drop (0 + length s) d), length-drop (0 + length s) d)
 
-length-hashed : (c : Card) (d : List ℕ) → length (rnd1Of c) ≡ 16 → length (hashedOf c d) ≡ 32
-unfolding hashedOf textOf
-length-hashed c d h =
-    length-append (rnd1Of c) (part (textOf c d) 2 16)
-    ∙ omega (arith, length-part (textOf c d) 2 16 (omega (arith, length-over-most (replicate 240 0) (decrypted (invAesUnder (diversified c)) zeros (blocksIn d) d))))
+-- "RND1, RND2 and KeysHash have L bytes each"
+pub length-keysHash : (c : Card) (d : List ℕ) → length (keysHash c d) ≡ keyLengthOf c
+unfolding keysHash
+length-keysHash c d = length-part (sha256 (hashedOf c d)) 0 (keyLengthOf c) (omega (arith, lawful-most (c .«key_length»), length-sha256 (hashedOf c d)))
 
--- "Final: 16 comparisons, n decipherments, B + 1 encipherments, 3 expansions, 1 hash block."
-module _ (c : Card) (d fresh : List ℕ) (lm : length (c .modes) ≡ 16) (lr : length (rnd1Of c) ≡ 16) where
-  one-block : blocks (hashedOf c d) ≡ 1
-  one-block = blocks-one (hashedOf c d) (length-hashed c d lr)
+-- 32 bytes each hold the keys and RND1 of a card
+pub record Stored (c : Card) : Type 0 where
+  pub sets : (i : ℕ) → length (getD (c .sets) i noSet .«fa_key») ≡ 32
+  pub shill : length (c .«shill_key») ≡ 32
+  pub rnd1 : length (c .session .rnd1) ≡ 32
 
+choice-long : (t : Bool) (n : ℕ) (x y : List ℕ) → length x ≡ n → length y ≡ n → length (cond t x y) ≡ n
+choice-long true n x y hx hy = hx
+choice-long false n x y hx hy = hy
+
+length-keyOf : (ks : List KeySetSlot) (id : KeySetId) (other : List ℕ) → ((i : ℕ) → length (getD ks i noSet .«fa_key») ≡ 32) → length other ≡ 32 → length (keyOf ks id other) ≡ 32
+unfolding keyOf
+length-keyOf [] id other h ho = ho
+length-keyOf (k ∷ ks) id other h ho = choice-long (setMatched true id (k .held) (k .id)) 32 (k .«fa_key») (keyOf ks id other) (h 0) (length-keyOf ks id other (λ i. h (suc i)) ho)
+
+-- the keys have L bytes each, too
+module _ (c : Card) (s : Stored c) where
+  most : keyLengthOf c ≤ 32
+  most = lawful-most (c .«key_length»)
+
+  pub length-faKey : length (faKeyOf c) ≡ keyLengthOf c
+  unfolding faKeyOf
+  length-faKey =
+      let set : List ℕ = keyOf (c .sets) (c .session .id) (c .«shill_key») in
+      let h : length (cond (c .session .opened) set (c .«shill_key»)) ≡ 32 =
+      choice-long (c .session .opened) 32 set (c .«shill_key») (length-keyOf (c .sets) (c .session .id) (c .«shill_key») (s .sets) (s .shill)) (s .shill) in
+      length-held (keyLengthOf c) (cond (c .session .opened) set (c .«shill_key»)) (omega (arith, most))
+
+  pub length-rnd1 : length (rnd1Of c) ≡ keyLengthOf c
+  unfolding rnd1Of
+  length-rnd1 =
+      choice-long (c .session .opened) (keyLengthOf c) (held (keyLengthOf c) (c .session .rnd1)) (replicate (keyLengthOf c) 0)
+      (length-held (keyLengthOf c) (c .session .rnd1) (omega (arith, most, s .rnd1))) (length-replicate (keyLengthOf c) 0)
+
+  length-hashed : (d : List ℕ) → length (hashedOf c d) ≡ 2 * keyLengthOf c
+  unfolding hashedOf textOf
+  length-hashed d =
+      length-append (rnd1Of c) (part (textOf c d) 2 (keyLengthOf c))
+      ∙ omega (arith, length-rnd1, length-part (textOf c d) 2 (keyLengthOf c) (omega (arith, most, length-over-most (replicate 240 0) (decrypted (invAesUnder (diversified c)) zeros (blocksIn d) d))))
+
+  -- "its own block count, 2 for L = 32 and else 1"
+  hashed-blocks : (d : List ℕ) → blocks (hashedOf c d) ≡ cond (eqb (keyLengthOf c) 32) 2 1
+  hashed-blocks d =
+      blocks-count (hashedOf c d)
+      ∙ ap of (length-hashed d)
+      ∙ each-length (λ (n : ℕ). of (2 * n) ≡ cond (eqb n 32) 2 1) (keyLengthOf c) (lawful-one (c .«key_length»)) refl refl refl
+    where
+      of : ℕ → ℕ
+      of n = n / 64 + 1 + (n % 64 + 8) / 64
+
+-- "Final: 16 comparisons, n decipherments, B + 1 encipherments, 3 expansions, 1 hash block." T-04: "One encipherment more is made for L over 16",
+-- and two hash blocks for L = 32
+module _ (c : Card) (d fresh : List ℕ) (lm : length (c .modes) ≡ 16) (s : Stored c) where
   pub final-comparisons : counted comparison (finalReply c d fresh .steps) ≡ 16
   unfolding finalReply
-  final-comparisons = counted-final comparison c d fresh ∙ omega (arith, one-block)
+  final-comparisons = counted-final comparison c d fresh ∙ omega arith
 
   pub final-decipherments : counted decipherment (finalReply c d fresh .steps) ≡ blocksIn d
   unfolding finalReply
-  final-decipherments = counted-final decipherment c d fresh ∙ omega (arith, one-block)
+  final-decipherments = counted-final decipherment c d fresh ∙ omega arith
 
-  pub final-encipherments : counted encipherment (finalReply c d fresh .steps) ≡ sizeOf c + 1
+  pub final-encipherments : counted encipherment (finalReply c d fresh .steps) ≡ sizeOf c + encipherments (keyLengthOf c)
   unfolding finalReply
-  final-encipherments = counted-final encipherment c d fresh ∙ omega (arith, one-block)
+  final-encipherments = counted-final encipherment c d fresh ∙ omega (arith, ap encipherments (length-faKey c s))
 
   pub final-expansions : counted expansion (finalReply c d fresh .steps) ≡ 3
   unfolding finalReply
-  final-expansions = counted-final expansion c d fresh ∙ omega (arith, one-block)
+  final-expansions = counted-final expansion c d fresh ∙ omega arith
 
-  pub final-hash-blocks : counted hashBlock (finalReply c d fresh .steps) ≡ 1
+  pub final-hash-blocks : counted hashBlock (finalReply c d fresh .steps) ≡ cond (eqb (keyLengthOf c) 32) 2 1
   unfolding finalReply
-  final-hash-blocks = counted-final hashBlock c d fresh ∙ omega (arith, one-block)
-
-rnd1-cases : (c : Card) (t : Bool) → length (c .session .rnd1) ≡ 16 → length (cond t (c .session .rnd1) zeros) ≡ 16
-rnd1-cases c true h = h
-rnd1-cases c false h = refl
-
-pub rnd1-length : (c : Card) → length (c .session .rnd1) ≡ 16 → length (rnd1Of c) ≡ 16
-unfolding rnd1Of
-rnd1-length c h = rnd1-cases c (c .session .opened) h
+  final-hash-blocks = counted-final hashBlock c d fresh ∙ omega (arith, hashed-blocks c s d)

@@ -5,37 +5,35 @@ use plaid_types::KeySetId;
 use plaid_types::KeySetSlot;
 use plaid_types::ModeSlot;
 use plaid_types::OpModeId;
+use plaid_types::Value;
 ghost use mathlib.Core.Path.{_≡_};
 ghost use mathlib.Core.Bool.{cond, true, _&&_};
 ghost use mathlib.Core.List.{_++_};
 ghost use Prim.Native.Nat.{_+_, _-_, _*_, _/_, _<_, _≤_};
 ghost use lib.Dec.{leb};
-ghost use lib.ListN.{length, getD, replicate};
+ghost use lib.ListN.{length, getD};
 ghost use Rattle.octets.specs.Bytes.{same};
 ghost use Rattle.octets.specs.Lists.{part, over};
+ghost use Rattle.sbox.specs.Rule.{sboxTable};
+ghost use Rattle.key_expansion.specs.KeyLength.{keyLength};
 ghost use Rattle.key_expansion.specs.Schedule.{fifteen};
-ghost use Rattle.aes.specs.Aes.{aesUnder, invAesUnder};
-ghost use Rattle.sha_block.specs.Hash.{sha256};
-ghost use Rattle.padding.specs.Method2.{rightly, end};
-ghost use Rattle.work.specs.Steps.{comparison, decipherment, encipherment, expansion, hashBlock, counted, sumFrom};
-ghost use Rattle.cbc.specs.Cbc.{encrypted, decrypted, zeros};
-ghost use Rattle.cbc.specs.Steps.{deciphered};
-ghost use Rattle.steps.specs.Made.{setMatched, hashSteps};
+ghost use Rattle.aes.specs.Aes.{aesUnder};
+ghost use Rattle.work.specs.Steps.{comparison, counted, sumFrom};
+ghost use Rattle.cbc.specs.Cbc.{encrypted, zeros};
+ghost use Rattle.steps.specs.Made.{setMatched};
+ghost use Rattle.plaid_types.specs.Keys.{keyLengthOf, held};
 ghost use Rattle.plaid_types.specs.Cards.{noMode};
-ghost use Rattle.final_command.specs.Final.{least, keyOf, faKeyOf, blocksIn, opMode, modeSteps, firstMode, accepting, recordOf, sizeOf, replyText, finalReply};
-ghost use Rattle.final_command.specs.Parts.{divSteps, openedText, bufferOf, sent};
+ghost use Rattle.final_command.specs.Final.{least, keyOf, opMode, modeSteps, firstMode, accepting, recordOf, sizeOf, replyText, finalReply};
+ghost use Rattle.final_command.specs.Parts.{derived, decipheredUnder, hashing, openedText, sealing, bufferOf, sent};
 ghost use Rattle.final_command.specs.Told.{toldFinal};
 
-// The kind of a step.
-const ENCIPHERMENT: u8 = 3;
-
-fn choose(t: bool, a: [u8; 16], b: [u8; 16]) -> [u8; 16]
+fn choose(t: bool, a: [u8; Value::MOST], b: [u8; Value::MOST]) -> [u8; Value::MOST]
     ensures { λ r. ⌜ r ≡ cond t a b ⌝ }
 {
     if t { a } else { b }
 }
 
-fn held_key(k: KeySetSlot, id: KeySetId, other: [u8; 16]) -> [u8; 16]
+fn held_key(k: KeySetSlot, id: KeySetId, other: [u8; Value::MOST]) -> [u8; Value::MOST]
     ensures { λ r. ⌜ r ≡ cond (setMatched true id (k .held) (k .id)) (k .«fa_key») other ⌝ }
 {
     let w = k.id;
@@ -49,7 +47,11 @@ fn held_key(k: KeySetSlot, id: KeySetId, other: [u8; 16]) -> [u8; 16]
 }
 
 // The first slot's key is taken last.
-fn key_of(sets: [KeySetSlot; Card::KEY_SETS], id: KeySetId, other: [u8; 16]) -> [u8; 16]
+fn key_of(
+    sets: [KeySetSlot; Card::KEY_SETS],
+    id: KeySetId,
+    other: [u8; Value::MOST],
+) -> [u8; Value::MOST]
     ensures { λ r. ⌜ r ≡ keyOf sets id other ⌝ }
 {
     let mut key = other;
@@ -62,8 +64,9 @@ fn key_of(sets: [KeySetSlot; Card::KEY_SETS], id: KeySetId, other: [u8; 16]) -> 
     key
 }
 
-fn fa_key(card: Card) -> [u8; 16]
-    ensures { λ r. ⌜ r ≡ faKeyOf card ⌝ }
+// The FAKey is the first L of these bytes.
+fn fa_key(card: Card) -> [u8; Value::MOST]
+    ensures { λ r. ⌜ r ≡ cond (card .session .opened) (keyOf (card .sets) (card .session .id) (card .«shill_key»)) (card .«shill_key») ⌝ }
 {
     let s = card.session;
     let id = s.id;
@@ -72,25 +75,29 @@ fn fa_key(card: Card) -> [u8; 16]
     choose(s.opened, key_of(sets, id, shill), shill)
 }
 
-struct Diversified {
-    key: [u8; 16],
+// The diversified key, in the first of its bytes, and what was made for it.
+struct Derived {
+    key: [u8; Value::MOST],
     encipherments: usize,
     expansions: usize,
     sum: u32,
 }
 
-// DivData enciphered by AES itself: one step.
-fn diversify(fa: [u8; 16], div: [u8; 16], sum: u32) -> Diversified
-    ensures { λ r. ⌜ r ≡ record { key = aesUnder fa div; encipherments = counted encipherment (divSteps fa div); expansions = counted expansion (divSteps fa div); sum = sumFrom sum (divSteps fa div) } ⌝ }
+// DivData enciphered by AES itself, under the FAKey.
+fn diversify(table: &[u8; 256], fa: &[u8], div: [u8; 16], sum: u32) -> Derived
+    requires { ⌜ (now table ≡ sboxTable) × (keyLength (length (now fa)) ≡ true) ⌝ }
+    ensures { λ r. ⌜ r ≡ derived (now (fa .entry)) div sum ⌝ }
 {
-    let e = steps::expand(&fa, sum);
+    let e = steps::expand(table, fa, sum);
     let rows = steps::round_keys(e);
-    let out = aes::encipher(&rows[..11], div);
-    Diversified {
-        key: out,
-        encipherments: 1,
+    let n = fa.len() / 4 + 7;
+    let k = diversification::diversify(table, fa, &rows[..n], div, e.sum);
+    let key = k.key;
+    Derived {
+        key: key,
+        encipherments: k.count,
         expansions: e.count,
-        sum: work::mix_cipher(e.sum, ENCIPHERMENT, work::prepare(&fa), div, out),
+        sum: k.sum,
     }
 }
 
@@ -105,14 +112,14 @@ impl Deciphered {
 }
 
 // The whole blocks of d, deciphered into bytes that start as zero.
-fn decipher(key: [u8; 16], rows: &[[u8; 16]], d: &[u8], sum: u32) -> Deciphered
-    requires { ⌜ (now rows ≡ fifteen (length key / 4) key) × (length (now d) < 256) ⌝ }
-    ensures { λ r. ⌜ r ≡ record { text = over (replicate 240 0) 0 (decrypted (invAesUnder key) zeros (blocksIn (now (d .entry))) (now (d .entry))); count = counted decipherment (deciphered key (invAesUnder key) (blocksIn (now (d .entry))) (now (d .entry))); sum = sumFrom sum (deciphered key (invAesUnder key) (blocksIn (now (d .entry))) (now (d .entry))) } ⌝ }
+fn decipher(key: &[u8], rows: &[[u8; 16]], d: &[u8], sum: u32) -> Deciphered
+    requires { ⌜ (keyLength (length (now key)) ≡ true) × (now rows ≡ fifteen (length (now key) / 4) (now key)) × (length (now d) < 256) ⌝ }
+    ensures { λ r. ⌜ r ≡ decipheredUnder (now (key .entry)) (now (d .entry)) sum ⌝ }
 {
     let mut text = [0u8; Deciphered::TEXT];
     let n = 16 * (d.len() / 16);
     octets::copy_at(&mut text, 0, &d[..n]);
-    let m = cbc::decipher_under(&key, rows, [0u8; 16], &mut text[..n], sum);
+    let m = cbc::decipher_under(key, rows, [0u8; 16], &mut text[..n], sum);
     Deciphered {
         text: text,
         count: m.count,
@@ -120,18 +127,24 @@ fn decipher(key: [u8; 16], rows: &[[u8; 16]], d: &[u8], sum: u32) -> Deciphered
     }
 }
 
-fn hashed(rnd1: [u8; 16], text: [u8; Deciphered::TEXT], sum: u32) -> steps::Hashing
-    ensures { λ r. ⌜ r ≡ record { digest = sha256 (rnd1 ++ part text 2 16); count = counted hashBlock (hashSteps (rnd1 ++ part text 2 16)); sum = sumFrom sum (hashSteps (rnd1 ++ part text 2 16)) } ⌝ }
+// RND1 and RND2, which follows the text's OpModeID and is as long.
+fn hashed(rnd1: &[u8], text: &[u8], sum: u32) -> steps::Hashing
+    requires { ⌜ (length (now rnd1) ≤ 32) × (2 + length (now rnd1) ≤ length (now text)) ⌝ }
+    ensures { λ r. ⌜ r ≡ hashing (now (rnd1 .entry) ++ part (now (text .entry)) 2 (length (now (rnd1 .entry)))) sum ⌝ }
 {
-    let mut m = [0u8; 32];
-    octets::copy_at(&mut m, 0, &rnd1);
-    octets::copy_at(&mut m, 16, &text[2..18]);
-    steps::hash(&m, sum)
+    let l = rnd1.len();
+    let mut m = [0u8; 2 * Value::MOST];
+    octets::copy_at(&mut m, 0, rnd1);
+    let rnd2 = octets::part_of(text, 2, l);
+    octets::copy_at(&mut m, l, rnd2);
+    let n = 2 * l;
+    steps::hash(&m[..n], sum)
 }
 
+// KeysHash is the first L bytes of the digest.
 struct Opened {
     text: [u8; Deciphered::TEXT],
-    hash: [u8; 16],
+    digest: [u8; 32],
     decipherments: usize,
     encipherments: usize,
     expansions: usize,
@@ -146,19 +159,24 @@ fn open_text(card: Card, d: &[u8]) -> Opened
 {
     let session = card.session;
     let div = card.div_data;
-    let rnd1 = session.rnd1;
-    let k = diversify(fa_key(card), div, 0);
-    let key = k.key;
-    let e = steps::expand(&key, k.sum);
+    let l = plaid_types::lawful(card.key_length);
+    let held = fa_key(card);
+    let fa = &held[..l];
+    let table = sbox::byte_table();
+    let k = diversify(&table, fa, div, 0);
+    let long = k.key;
+    let key = &long[..l];
+    let e = steps::expand(&table, key, k.sum);
     let rows = steps::round_keys(e);
     let t = decipher(key, &rows, d, e.sum);
     let text = t.text;
-    let h = hashed(choose(session.opened, rnd1, [0u8; 16]), text, t.sum);
+    let kept = session.rnd1;
+    let rnd1 = choose(session.opened, kept, [0u8; Value::MOST]);
+    let h = hashed(&rnd1[..l], &text, t.sum);
     let digest = h.digest;
-    let hash = octets::block_at(&digest, 0);
     Opened {
         text: text,
-        hash: hash,
+        digest: digest,
         decipherments: t.count,
         encipherments: k.encipherments,
         expansions: k.expansions + e.count,
@@ -202,20 +220,22 @@ fn op_mode(text: [u8; Deciphered::TEXT]) -> OpModeId
     OpModeId(octets::word(text[0], text[1]))
 }
 
-// A text of t bytes ends with KeysHash.
-fn ends_with(s: &[u8], t: usize, hash: [u8; 16]) -> bool
-    requires { ⌜ t ≤ length (now s) ⌝ }
-    ensures { λ r. ⌜ r ≡ (leb 34 t && same (part (now (s .entry)) (t - 16) 16) hash) ⌝ }
+// A text of t bytes is long enough and ends with KeysHash.
+fn ends_with(s: &[u8], t: usize, hash: &[u8]) -> bool
+    requires { ⌜ (t ≤ length (now s)) × (length (now hash) ≤ 32) ⌝ }
+    ensures { λ r. ⌜ r ≡ (leb (2 + 2 * length (now (hash .entry))) t && same (part (now (s .entry)) (t - length (now (hash .entry))) (length (now (hash .entry)))) (now (hash .entry))) ⌝ }
 {
-    if 34 <= t {
-        return octets::equal(octets::block_at(s, t - 16), hash);
+    let l = hash.len();
+    if 2 + 2 * l <= t {
+        return octets::equal(octets::part_of(s, t - l, l), hash);
     }
     false
 }
 
 // The text is rightly padded, ends with KeysHash, and names a mode that is held.
-fn sealed(s: &[u8], hash: [u8; 16], held: bool) -> bool
-    ensures { λ r. ⌜ r ≡ (rightly (now (s .entry)) && (leb 34 (end (now (s .entry)) - 1) && (same (part (now (s .entry)) (end (now (s .entry)) - 1 - 16) 16) hash && held))) ⌝ }
+fn sealed(s: &[u8], hash: &[u8], held: bool) -> bool
+    requires { ⌜ length (now hash) ≤ 32 ⌝ }
+    ensures { λ r. ⌜ r ≡ sealing (now (s .entry)) (now (hash .entry)) held ⌝ }
 {
     let u = padding::unpad(s);
     match u {
@@ -224,15 +244,9 @@ fn sealed(s: &[u8], hash: [u8; 16], held: bool) -> bool
     }
 }
 
-fn accepts(
-    opened: bool,
-    lc: usize,
-    text: [u8; Deciphered::TEXT],
-    hash: [u8; 16],
-    mode: usize,
-) -> bool
-    requires { ⌜ lc < 256 ⌝ }
-    ensures { λ r. ⌜ r ≡ accepting opened lc (part text 0 (16 * (lc / 16))) hash mode ⌝ }
+fn accepts(opened: bool, lc: usize, text: [u8; Deciphered::TEXT], hash: &[u8], mode: usize) -> bool
+    requires { ⌜ (lc < 256) × (length (now hash) ≤ 32) ⌝ }
+    ensures { λ r. ⌜ r ≡ accepting (length (now (hash .entry))) opened lc (part text 0 (16 * (lc / 16))) (now (hash .entry)) mode ⌝ }
 {
     let n = 16 * (lc / 16);
     let good = sealed(&text[..n], hash, mode < Card::MODES);
@@ -324,26 +338,29 @@ struct Sent {
 fn reply(
     card: Card,
     accepted: bool,
-    hash: [u8; 16],
+    digest: [u8; 32],
     mode: ModeSlot,
     sum: u32,
     fresh: &[u8],
     out: &mut [u8],
 ) -> Sent
     requires { ⌜ (length (now fresh) ≡ 253) × (256 ≤ length (now out)) ⌝ }
-    ensures told { λ r. ⌜ r ≡ sent (cond accepted hash (card .«shill_key»)) (sizeOf card) (bufferOf (replyText accepted (card .area) mode (card .«div_data») (now (fresh .entry)) (sizeOf card))) sum ⌝ }
-    ensures bytes { λ r. ⌜ now (out .exit) ≡ over (now (out .entry)) 0 (encrypted (aesUnder (cond accepted hash (card .«shill_key»))) zeros (sizeOf card) (bufferOf (replyText accepted (card .area) mode (card .«div_data») (now (fresh .entry)) (sizeOf card)))) ⌝ }
+    ensures told { λ r. ⌜ r ≡ sent (held (keyLengthOf card) (cond accepted digest (card .«shill_key»))) (sizeOf card) (bufferOf (replyText accepted (card .area) mode (card .«div_data») (now (fresh .entry)) (sizeOf card))) sum ⌝ }
+    ensures bytes { λ r. ⌜ now (out .exit) ≡ over (now (out .entry)) 0 (encrypted (aesUnder (held (keyLengthOf card) (cond accepted digest (card .«shill_key»)))) zeros (sizeOf card) (bufferOf (replyText accepted (card .area) mode (card .«div_data») (now (fresh .entry)) (sizeOf card)))) ⌝ }
 {
     let shill = card.shill_key;
     let area = card.area;
     let div = card.div_data;
-    let key = choose(accepted, hash, shill);
-    let e = steps::expand(&key, sum);
+    let l = plaid_types::lawful(card.key_length);
+    let chosen = choose(accepted, digest, shill);
+    let key = &chosen[..l];
+    let table = sbox::byte_table();
+    let e = steps::expand(&table, key, sum);
     let rows = steps::round_keys(e);
     let size = lesser(card.reply_size, Card::REPLY_MOST);
     let mut b = reply_text(accepted, area, mode, div, fresh, size);
     let n = 16 * size;
-    let m = cbc::encipher_under(&key, &rows, [0u8; 16], &mut b[..n], e.sum);
+    let m = cbc::encipher_under(key, &rows, [0u8; 16], &mut b[..n], e.sum);
     octets::copy_at(out, 0, &b[..n]);
     Sent {
         encipherments: m.count,
@@ -371,13 +388,14 @@ pub fn run(card: Card, d: &[u8], fresh: &[u8], out: &mut [u8]) -> Final
 {
     let session = card.session;
     let modes = card.modes;
+    let l = plaid_types::lawful(card.key_length);
     let o = open_text(card, d);
     let text = o.text;
-    let hash = o.hash;
+    let digest = o.digest;
     let f = compare_modes(modes, op_mode(text), o.sum);
-    let accepted = accepts(session.opened, d.len(), text, hash, f.at);
+    let accepted = accepts(session.opened, d.len(), text, &digest[..l], f.at);
     let mode = mode_at(modes, f.at);
-    let s = reply(card, accepted, hash, mode, f.sum, fresh, out);
+    let s = reply(card, accepted, digest, mode, f.sum, fresh, out);
     Final {
         comparisons: f.count,
         decipherments: o.decipherments,

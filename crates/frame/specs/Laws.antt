@@ -10,6 +10,7 @@ use lib.Dec.{eqb, ltb}
 use lib.ListN.{length, getD, List·getD-append, drop, length-drop, drop-of-length-le}
 use lib.Seq.{getD-append-add}
 use Rattle.octets.specs.Lists.{part, length-part, getD-part}
+use Rattle.plaid_types.specs.Keys.{str1Length}
 use Rattle.frame.specs.Frame.{frameOf, claOf, insOf, p1Of, p2Of, lcOf, leOf, knownIns, whole, statusOf, dataOf}
 use Rattle.frame.specs.Declines.{noZero, padBytes, verdict}
 use Rattle.frame.specs.declared.Verdict.{Verdict}
@@ -111,26 +112,26 @@ faultless n f q =
     faultless-by n f (ltb n 4) (eqb (claOf f) 0) (knownIns (insOf f)) (eqb (p1Of f) 0 && eqb (p2Of f) 0) (whole n f) refl refl refl refl refl q
 
 -- what a call has shown that is not declined
-pub record Passed (n : ℕ) (f fresh : List ℕ) (room : ℕ) : Type 0 where
+pub record Passed (l n : ℕ) (f fresh : List ℕ) (room : ℕ) : Type 0 where
   pub fresh-long : length fresh ≡ 253
-  pub pad-nonzero : noZero (padBytes fresh) ≡ true
+  pub pad-nonzero : noZero (padBytes l fresh) ≡ true
   pub room-enough : 256 ≤ room
   pub status : statusOf n f ≡ 0x9000
   pub frame : Faultless n f
-  pub answer : verdict n f fresh room ≡ record { number = 0; status = 0x9000 }
+  pub answer : verdict l n f fresh room ≡ record { number = 0; status = 0x9000 }
 
-passed-by : (n : ℕ) (f fresh : List ℕ) (room : ℕ) (s t u : Bool) (v : Verdict) →
+passed-by : (l n : ℕ) (f fresh : List ℕ) (room : ℕ) (s t u : Bool) (v : Verdict) →
     eqb (length fresh) 253 ≡ s →
-    noZero (padBytes fresh) ≡ t →
+    noZero (padBytes l fresh) ≡ t →
     ltb room 256 ≡ u →
     cond s (cond t (cond u (record { number = 10; status = 0 }) (record { number = 0; status = statusOf n f })) (record { number = 9; status = 0 })) (record { number = 8; status = 0 }) ≡ v →
     v .status ≡ 0x9000 →
-    verdict n f fresh room ≡ v →
-    Passed n f fresh room
-passed-by n f fresh room false t u v es et eu e q a = absurd (omega (arith, ap (λ (w : Verdict). w .status) e))
-passed-by n f fresh room true false u v es et eu e q a = absurd (omega (arith, ap (λ (w : Verdict). w .status) e))
-passed-by n f fresh room true true true v es et eu e q a = absurd (omega (arith, ap (λ (w : Verdict). w .status) e))
-passed-by n f fresh room true true false v es et eu e q a =
+    verdict l n f fresh room ≡ v →
+    Passed l n f fresh room
+passed-by l n f fresh room false t u v es et eu e q a = absurd (omega (arith, ap (λ (w : Verdict). w .status) e))
+passed-by l n f fresh room true false u v es et eu e q a = absurd (omega (arith, ap (λ (w : Verdict). w .status) e))
+passed-by l n f fresh room true true true v es et eu e q a = absurd (omega (arith, ap (λ (w : Verdict). w .status) e))
+passed-by l n f fresh room true true false v es et eu e q a =
     let z : statusOf n f ≡ 0x9000 = ap (λ (w : Verdict). w .status) e ∙ q in
     record {
       fresh-long = eqb-true (length fresh) 253 es;
@@ -141,10 +142,10 @@ passed-by n f fresh room true true false v es et eu e q a =
       answer = a ∙ sym e ∙ ap (λ (k : ℕ). record { number = 0; status = k }) z;
     }
 
-pub passed : (n : ℕ) (f fresh : List ℕ) (room : ℕ) → verdict n f fresh room .status ≡ 0x9000 → Passed n f fresh room
+pub passed : (l n : ℕ) (f fresh : List ℕ) (room : ℕ) → verdict l n f fresh room .status ≡ 0x9000 → Passed l n f fresh room
 unfolding verdict
-passed n f fresh room q =
-    passed-by n f fresh room (eqb (length fresh) 253) (noZero (padBytes fresh)) (ltb room 256) (verdict n f fresh room) refl refl refl refl q refl
+passed l n f fresh room q =
+    passed-by l n f fresh room (eqb (length fresh) 253) (noZero (padBytes l fresh)) (ltb room 256) (verdict l n f fresh room) refl refl refl refl q refl
 
 -- the command of a faultless frame: its length, its INS, and its data
 pub command-long : (c : List ℕ) → Faultless (length c) (frameOf c) → 7 ≤ length c
@@ -157,9 +158,9 @@ pub data-long : (c : List ℕ) → Faultless (length c) (frameOf c) → length (
 unfolding dataOf
 data-long c k = length-part c 5 (length c - 6) (omega arith) ∙ omega arith
 
-pub length-pads : (fresh : List ℕ) → length fresh ≡ 253 → length (padBytes fresh) ≡ 203
+pub length-pads : (l : ℕ) (fresh : List ℕ) → length fresh ≡ 253 → length (padBytes l fresh) ≡ 253 - str1Length l
 unfolding padBytes
-length-pads fresh e = omega (arith, length-drop 50 fresh)
+length-pads l fresh e = omega (arith, length-drop (str1Length l) fresh)
 
 -- the look for a zero byte ends where the list does
 pub zero-done : (s : List ℕ) (i : ℕ) (ok all : Bool) → length s ≤ i → (ok && noZero (drop i s)) ≡ all → ok ≡ all

@@ -3,10 +3,11 @@ use plaid_types::Answer;
 use plaid_types::Fresh;
 ghost use mathlib.Core.Path.{_≡_};
 ghost use mathlib.Core.Bool.{_&&_, cond, not};
+ghost use Prim.Native.Nat.{_≤_};
 ghost use lib.ListN.{length, drop};
 ghost use lib.Dec.{eqb};
 ghost use Rattle.frame.specs.Frame.{frameOf, knownIns, whole, statusOf};
-ghost use Rattle.frame.specs.Declines.{noZero, verdict};
+ghost use Rattle.frame.specs.Declines.{noZero, padBytes, verdict};
 
 // 9000 where the call goes on; a number, or a status of ISO/IEC 7816-4, where it is declined.
 pub struct Verdict {
@@ -76,8 +77,21 @@ pub fn status(cmd: &[u8]) -> u16
     rest_status(cmd)
 }
 
-pub fn check(cmd: &[u8], fresh: &[u8], room: usize) -> Verdict
-    ensures { λ r. ⌜ r ≡ verdict (length (now (cmd .entry))) (frameOf (now (cmd .entry))) (now (fresh .entry)) room ⌝ }
+// Whether no pad byte is 0. Of the shortest keys the compiler is told the length, so that it knows how many there are.
+fn pads_nonzero(l: usize, fresh: &[u8]) -> bool
+    requires { ⌜ l ≤ 32 ⌝ }
+    ensures { λ r. ⌜ r ≡ noZero (padBytes l (now (fresh .entry))) ⌝ }
+{
+    if l == 16 {
+        return no_zero(fresh, plaid_types::str1_length(16));
+    }
+    no_zero(fresh, plaid_types::str1_length(l))
+}
+
+// The checks of a call to a card whose keys have l bytes.
+pub fn check(l: usize, cmd: &[u8], fresh: &[u8], room: usize) -> Verdict
+    requires { ⌜ l ≤ 32 ⌝ }
+    ensures { λ r. ⌜ r ≡ verdict l (length (now (cmd .entry))) (frameOf (now (cmd .entry))) (now (fresh .entry)) room ⌝ }
 {
     if fresh.len() != Fresh::ALL {
         return Verdict {
@@ -85,7 +99,7 @@ pub fn check(cmd: &[u8], fresh: &[u8], room: usize) -> Verdict
             status: 0,
         };
     }
-    if !no_zero(fresh, Fresh::FIRST) {
+    if !pads_nonzero(l, fresh) {
         return Verdict {
             number: 9,
             status: 0,

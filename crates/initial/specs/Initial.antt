@@ -9,9 +9,11 @@ use Rattle.work.specs.Steps.{Step}
 use Rattle.steps.specs.Made.{setMatched, setComparison}
 use Rattle.frame.specs.Declines.{padBytes}
 use Rattle.list.specs.Ber.{entryAt, placeCount, listed}
+use Rattle.plaid_types.specs.Keys.{keyLengthOf, wide, str1Length}
 use Rattle.plaid_types.specs.Cards.{noSession, noSet, Reply}
 use Rattle.plaid_types.specs.declared.KeySetId.{KeySetId}
 use Rattle.plaid_types.specs.declared.KeySetSlot.{KeySetSlot}
+use Rattle.plaid_types.specs.declared.Session.{Session}
 use Rattle.plaid_types.specs.declared.Card.{Card}
 
 -- a place "compared with all eight slots", in order
@@ -52,18 +54,23 @@ acceptsInitial c d = ltb (slotOf c d) 8
 unfoldable pub str1 : KeySetId → List ℕ → List ℕ → List ℕ
 str1 id div rnd1 = id .0 / 256 ∷ id .0 % 256 ∷ (div ++ (rnd1 ++ rnd1))
 
--- "The output block is 00 02, the pad bytes, 00, those 50 bytes."
-unfoldable pub blockOf : List ℕ → List ℕ → List ℕ
-blockOf fresh text = (0 ∷ 2 ∷ (padBytes fresh ++ (0 ∷ []))) ++ text
+-- "The output block is 00 02, the pad bytes, 00, those 50 bytes." T-04: "STR1 is then 50, 66 or 82 bytes"
+unfoldable pub blockOf : ℕ → List ℕ → List ℕ → List ℕ
+blockOf l fresh text = (0 ∷ 2 ∷ (padBytes l fresh ++ (0 ∷ []))) ++ text
 
--- "Accepted: .. RND1 is the first 16 of F; handle of that key set; session opens, replacing any other."
+-- a session that is open with a key set and RND1
+abbrev pub openedWith : KeySetId → List ℕ → Session
+openedWith id rnd1 = record { opened = true; id = id; rnd1 = wide rnd1 }
+
+-- "Accepted: .. RND1 is the first 16 of F; handle of that key set; session opens, replacing any other." T-04: "RND1, RND2 and KeysHash have L bytes
+-- each"
 abbrev pub acceptedInitial : Card → List ℕ → List ℕ → KeySetSlot → Reply
 acceptedInitial c d fresh k =
     record {
       handle = k .handle;
-      bytes = blockOf fresh (str1 (k .id) (c .«div_data») (part fresh 0 16));
+      bytes = blockOf (keyLengthOf c) fresh (str1 (k .id) (c .«div_data») (part fresh 0 (keyLengthOf c)));
       steps = initialSteps c d;
-      session = record { opened = true; id = k .id; rnd1 = part fresh 0 16 };
+      session = openedWith (k .id) (part fresh 0 (keyLengthOf c));
     }
 
 -- "Refused ..: F stands for STR1, shill handle, no session."
@@ -71,7 +78,7 @@ abbrev pub refusedInitial : Card → List ℕ → List ℕ → Reply
 refusedInitial c d fresh =
     record {
       handle = c .«shill_handle»;
-      bytes = blockOf fresh (part fresh 0 50);
+      bytes = blockOf (keyLengthOf c) fresh (part fresh 0 (str1Length (keyLengthOf c)));
       steps = initialSteps c d;
       session = noSession;
     }

@@ -2,15 +2,18 @@
 use mathlib.Core.Path.{_≡_, refl, ap, _∙_}
 use mathlib.Core.Bool.{Bool, true, false, cond, _&&_}
 use mathlib.Core.List.{List, [], _∷_, _++_}
-use Prim.Native.Nat.{ℕ, zero, suc, _+_, _*_}
+use Prim.Native.Nat.{ℕ, zero, suc, _+_, _*_, _≤_}
 use native.Mathlib.Omega.{arith}
 use lib.Dec.{eqb}
-use lib.ListN.{length, getD, length-append, length-drop}
+use lib.ListN.{length, getD, length-append}
 use Rattle.octets.specs.Lists.{part, length-part}
 use Rattle.work.specs.Steps.{comparison, counted}
 use Rattle.work.specs.Laws.{counted-append, times-none, times-more}
 use Rattle.frame.specs.Declines.{padBytes}
+use Rattle.frame.specs.Laws.{length-pads}
 use Rattle.list.specs.Ber.{entryAt, placeCount, listed}
+use Rattle.plaid_types.specs.Keys.{keyLengthOf, str1Length}
+use Rattle.plaid_types.specs.KeyLaws.{lawful-most, length-wide, str1-most}
 use Rattle.plaid_types.specs.Cards.{noSet}
 use Rattle.plaid_types.specs.declared.KeySetId.{KeySetId}
 use Rattle.plaid_types.specs.declared.KeySetSlot.{KeySetSlot}
@@ -53,32 +56,41 @@ pub initial-counted : (k : ℕ) (c : Card) (d fresh : List ℕ) → length (c .s
 unfolding initialSteps
 initial-counted k c d fresh l = ap (counted k) (initial-steps c d fresh) ∙ counted-places k (c .sets) (listed d .formed) d (listed d .first) (placeCount d) l
 
-length-str1 : (id : KeySetId) (div rnd1 : List ℕ) → length div ≡ 16 → length rnd1 ≡ 16 → length (str1 id div rnd1) ≡ 50
-unfolding str1
-length-str1 id div rnd1 ld lr = omega (arith, length-append div (rnd1 ++ rnd1), length-append rnd1 rnd1)
+pub length-str1 : (l : ℕ) (id : KeySetId) (div rnd1 : List ℕ) → length div ≡ 16 → length rnd1 ≡ l → length (str1 id div rnd1) ≡ str1Length l
+unfolding str1 str1Length
+length-str1 l id div rnd1 ld lr = omega (arith, length-append div (rnd1 ++ rnd1), length-append rnd1 rnd1)
 
-length-block : (fresh text : List ℕ) → length fresh ≡ 253 → length text ≡ 50 → length (blockOf fresh text) ≡ 256
-unfolding blockOf padBytes
-length-block fresh text lf lt =
-    length-append (0 ∷ 2 ∷ (padBytes fresh ++ (0 ∷ []))) text ∙ omega (arith, length-append (padBytes fresh) (0 ∷ []), length-drop 50 fresh)
+pub length-block : (l : ℕ) (fresh text : List ℕ) → l ≤ 32 → length fresh ≡ 253 → length text ≡ str1Length l → length (blockOf l fresh text) ≡ 256
+unfolding blockOf
+length-block l fresh text h lf lt =
+    length-append (0 ∷ 2 ∷ (padBytes l fresh ++ (0 ∷ []))) text ∙ omega (arith, length-append (padBytes l fresh) (0 ∷ []), length-pads l fresh lf, str1-most l h)
+
+-- RND1 has L bytes, and F as many as STR1
+pub rnd1-long : (c : Card) (fresh : List ℕ) → length fresh ≡ 253 → length (part fresh 0 (keyLengthOf c)) ≡ keyLengthOf c
+rnd1-long c fresh lf = length-part fresh 0 (keyLengthOf c) (omega (arith, lawful-most (c .«key_length»)))
+
+f-long : (c : Card) (fresh : List ℕ) → length fresh ≡ 253 → length (part fresh 0 (str1Length (keyLengthOf c))) ≡ str1Length (keyLengthOf c)
+f-long c fresh lf = length-part fresh 0 (str1Length (keyLengthOf c)) (omega (arith, str1-most (keyLengthOf c) (lawful-most (c .«key_length»))))
 
 length-cases : (c : Card) (d fresh : List ℕ) (t : Bool) → length (c .«div_data») ≡ 16 → length fresh ≡ 253 →
     length (cond t (acceptedInitial c d fresh (getD (c .sets) (slotOf c d) noSet)) (refusedInitial c d fresh) .bytes) ≡ 256
 length-cases c d fresh true ld lf =
-    length-block fresh _ lf (length-str1 (getD (c .sets) (slotOf c d) noSet .id) (c .«div_data») (part fresh 0 16) ld (length-part fresh 0 16 (omega arith)))
-length-cases c d fresh false ld lf = length-block fresh (part fresh 0 50) lf (length-part fresh 0 50 (omega arith))
+    length-block (keyLengthOf c) fresh _ (lawful-most (c .«key_length»)) lf
+    (length-str1 (keyLengthOf c) (getD (c .sets) (slotOf c d) noSet .id) (c .«div_data») (part fresh 0 (keyLengthOf c)) ld (rnd1-long c fresh lf))
+length-cases c d fresh false ld lf =
+    length-block (keyLengthOf c) fresh (part fresh 0 (str1Length (keyLengthOf c))) (lawful-most (c .«key_length»)) lf (f-long c fresh lf)
 
 -- "Answer length: 256"
 pub initial-length : (c : Card) (d fresh : List ℕ) → length (c .«div_data») ≡ 16 → length fresh ≡ 253 → length (initialReply c d fresh .bytes) ≡ 256
 unfolding initialReply
 initial-length c d fresh ld lf = length-cases c d fresh (acceptsInitial c d) ld lf
 
--- the session afterwards has a RND1 of sixteen bytes
+-- the session afterwards holds RND1 in 32 bytes
 session-cases : (c : Card) (d fresh : List ℕ) (t : Bool) → length fresh ≡ 253 →
-    length (cond t (acceptedInitial c d fresh (getD (c .sets) (slotOf c d) noSet)) (refusedInitial c d fresh) .session .rnd1) ≡ 16
-session-cases c d fresh true lf = length-part fresh 0 16 (omega arith)
+    length (cond t (acceptedInitial c d fresh (getD (c .sets) (slotOf c d) noSet)) (refusedInitial c d fresh) .session .rnd1) ≡ 32
+session-cases c d fresh true lf = length-wide (part fresh 0 (keyLengthOf c)) (omega (arith, rnd1-long c fresh lf, lawful-most (c .«key_length»)))
 session-cases c d fresh false lf = refl
 
-pub initial-rnd1 : (c : Card) (d fresh : List ℕ) → length fresh ≡ 253 → length (initialReply c d fresh .session .rnd1) ≡ 16
+pub initial-rnd1 : (c : Card) (d fresh : List ℕ) → length fresh ≡ 253 → length (initialReply c d fresh .session .rnd1) ≡ 32
 unfolding initialReply
 initial-rnd1 c d fresh lf = session-cases c d fresh (acceptsInitial c d) lf

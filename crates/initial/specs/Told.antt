@@ -35,9 +35,9 @@ placesFound sets formed d p n =
 abbrev pub dataFound : List KeySetSlot → List ℕ → Found
 dataFound sets d = placesFound sets (listed d .formed) d (listed d .first) (placeCount d)
 
--- what the block has before the fifty bytes: "00 02, the pad bytes, 00"
-abbrev pub headOf : List ℕ → List ℕ
-headOf fresh = 0 ∷ 2 ∷ (padBytes fresh ++ (0 ∷ []))
+-- what the block has before STR1: "00 02, the pad bytes, 00"
+abbrev pub headOf : ℕ → List ℕ → List ℕ
+headOf l fresh = 0 ∷ 2 ∷ (padBytes l fresh ++ (0 ∷ []))
 
 -- of a reply, beside its bytes: the count and the sum are over its steps
 abbrev pub toldInitial : Reply → Initial

@@ -2,18 +2,18 @@
 use list::Listed;
 use plaid_types::Answer;
 use plaid_types::Card;
-use plaid_types::Fresh;
 use plaid_types::KeySetId;
 use plaid_types::KeySetSlot;
 use plaid_types::Session;
 ghost use mathlib.Core.Path.{_≡_};
 ghost use mathlib.Core.Bool.{cond};
-ghost use Prim.Native.Nat.{_<_, _≤_};
+ghost use Prim.Native.Nat.{_-_, _<_, _≤_};
 ghost use lib.Dec.{eqb};
 ghost use lib.ListN.{length};
 ghost use Rattle.octets.specs.Lists.{part, over};
+ghost use Rattle.plaid_types.specs.Keys.{str1Length};
 ghost use Rattle.frame.specs.Declines.{padBytes};
-ghost use Rattle.initial.specs.Initial.{str1, initialReply};
+ghost use Rattle.initial.specs.Initial.{str1, openedWith, initialReply};
 ghost use Rattle.initial.specs.Told.{slotsFound, dataFound, headOf, toldInitial};
 
 // Where the first match is (8: none), how many comparisons there were, and the work sum after them.
@@ -90,43 +90,73 @@ fn compare_places(sets: [KeySetSlot; Card::KEY_SETS], d: &[u8]) -> Found
     }
 }
 
-// The first fifty of the fresh bytes, and the rest: the pad bytes.
-fn first_fifty(fresh: &[u8]) -> &[u8]
-    requires { ⌜ 50 ≤ length (now fresh) ⌝ }
-    ensures { λ r. ⌜ now r ≡ part (now (fresh .entry)) 0 50 ⌝ }
+// The fresh bytes behind F.
+fn pad_bytes(l: usize, fresh: &[u8]) -> &[u8]
+    requires { ⌜ (l ≤ 32) × (length (now fresh) ≡ 253) ⌝ }
+    ensures { λ r. ⌜ now r ≡ padBytes l (now (fresh .entry)) ⌝ }
 {
-    &fresh[..Fresh::FIRST]
+    let from = plaid_types::str1_length(l);
+    &fresh[from..]
 }
 
-fn pad_bytes(fresh: &[u8]) -> &[u8]
-    requires { ⌜ 50 ≤ length (now fresh) ⌝ }
-    ensures { λ r. ⌜ now r ≡ padBytes (now (fresh .entry)) ⌝ }
+// Where STR1 starts, or F in its place: they end where the answer does.
+fn text_at(l: usize) -> usize
+    requires { ⌜ l ≤ 32 ⌝ }
+    ensures { λ r. ⌜ r ≡ 256 - str1Length l ⌝ }
 {
-    &fresh[Fresh::FIRST..]
+    Answer::INITIAL - plaid_types::str1_length(l)
 }
 
-// What stands before the fifty bytes: 00 02, the pad bytes, 00.
-fn head(fresh: &[u8], out: &mut [u8])
-    requires { ⌜ (length (now fresh) ≡ 253) × (256 ≤ length (now out)) ⌝ }
-    ensures { λ _. ⌜ now (out .exit) ≡ over (now (out .entry)) 0 (headOf (now (fresh .entry))) ⌝ }
+// What stands before STR1: 00 02, the pad bytes, 00.
+fn head(l: usize, fresh: &[u8], out: &mut [u8])
+    requires { ⌜ (l ≤ 32) × (length (now fresh) ≡ 253) × (256 ≤ length (now out)) ⌝ }
+    ensures { λ _. ⌜ now (out .exit) ≡ over (now (out .entry)) 0 (headOf l (now (fresh .entry))) ⌝ }
 {
     let start = [0u8, 2];
     octets::copy_at(out, 0, &start);
-    octets::copy_at(out, 2, pad_bytes(fresh));
+    octets::copy_at(out, 2, pad_bytes(l, fresh));
     let end = [0u8];
-    octets::copy_at(out, 205, &end);
+    octets::copy_at(out, text_at(l) - 1, &end);
 }
 
-// The fifty bytes of an accepted command: KeySetID, DivData, RND1, RND1.
-fn str1(id: KeySetId, div: [u8; 16], rnd1: [u8; 16], out: &mut [u8])
-    requires { ⌜ 256 ≤ length (now out) ⌝ }
-    ensures { λ _. ⌜ now (out .exit) ≡ over (now (out .entry)) 206 (str1 id div rnd1) ⌝ }
+// STR1 of an accepted command: KeySetID, DivData, RND1, RND1.
+fn str1(id: KeySetId, div: [u8; 16], rnd1: &[u8], out: &mut [u8])
+    requires { ⌜ (length (now rnd1) ≤ 32) × (256 ≤ length (now out)) ⌝ }
+    ensures { λ _. ⌜ now (out .exit) ≡ over (now (out .entry)) (256 - str1Length (length (now (rnd1 .entry)))) (str1 id div (now (rnd1 .entry))) ⌝ }
 {
+    let at = text_at(rnd1.len());
     let number = [(id.0 / 256) as u8, (id.0 % 256) as u8];
-    octets::copy_at(out, 206, &number);
-    octets::copy_at(out, 208, &div);
-    octets::copy_at(out, 224, &rnd1);
-    octets::copy_at(out, 240, &rnd1);
+    octets::copy_at(out, at, &number);
+    octets::copy_at(out, at + 2, &div);
+    octets::copy_at(out, at + 18, rnd1);
+    octets::copy_at(out, at + 18 + rnd1.len(), rnd1);
+}
+
+// An accepted command's STR1, and the session that it opens. RND1 is copied once, into the session's 32 bytes, and STR1 is written from there.
+fn opened(l: usize, id: KeySetId, div: [u8; 16], fresh: &[u8], out: &mut [u8]) -> Session
+    requires { ⌜ (l ≤ 32) × (length (now fresh) ≡ 253) × (256 ≤ length (now out)) ⌝ }
+    ensures { λ r. ⌜ r ≡ openedWith id (part (now (fresh .entry)) 0 l) ⌝ }
+    ensures { λ _. ⌜ now (out .exit) ≡ over (now (out .entry)) (256 - str1Length l) (str1 id div (part (now (fresh .entry)) 0 l)) ⌝ }
+{
+    let rnd1 = plaid_types::wide(octets::part_of(fresh, 0, l));
+    str1(id, div, &rnd1[..l], out);
+    Session {
+        opened: true,
+        id: id,
+        rnd1: rnd1,
+    }
+}
+
+// The same. Of the shortest keys the compiler is told the length, so that it knows how many bytes it writes.
+fn opened_of_length(l: usize, id: KeySetId, div: [u8; 16], fresh: &[u8], out: &mut [u8]) -> Session
+    requires { ⌜ (l ≤ 32) × (length (now fresh) ≡ 253) × (256 ≤ length (now out)) ⌝ }
+    ensures { λ r. ⌜ r ≡ openedWith id (part (now (fresh .entry)) 0 l) ⌝ }
+    ensures { λ _. ⌜ now (out .exit) ≡ over (now (out .entry)) (256 - str1Length l) (str1 id div (part (now (fresh .entry)) 0 l)) ⌝ }
+{
+    if l == 16 {
+        return opened(16, id, div, fresh, out);
+    }
+    opened(l, id, div, fresh, out)
 }
 
 // What an initial command hands back beside the bytes of its answer.
@@ -144,29 +174,28 @@ pub fn run(card: Card, d: &[u8], fresh: &[u8], out: &mut [u8]) -> Initial
     ensures { λ r. ⌜ r ≡ toldInitial (initialReply card (now (d .entry)) (now (fresh .entry))) ⌝ }
     ensures { λ _. ⌜ now (out .exit) ≡ over (now (out .entry)) 0 (initialReply card (now (d .entry)) (now (fresh .entry)) .bytes) ⌝ }
 {
+    let l = plaid_types::lawful(card.key_length);
     let sets = card.sets;
     let f = compare_places(sets, d);
-    head(fresh, out);
+    head(l, fresh, out);
     let at = f.at;
     if at < Card::KEY_SETS {
         let k = sets[at];
         let id = k.id;
         let div = card.div_data;
-        let rnd1 = octets::block_at(fresh, 0);
-        str1(id, div, rnd1, out);
         return Initial {
             handle: k.handle,
             comparisons: f.count,
             length: Answer::INITIAL,
             sum: f.sum,
-            session: Session {
-                opened: true,
-                id: id,
-                rnd1: rnd1,
-            },
+            session: opened_of_length(l, id, div, fresh, out),
         };
     }
-    octets::copy_at(out, 206, first_fifty(fresh));
+    octets::copy_at(
+        out,
+        text_at(l),
+        octets::part_of(fresh, 0, plaid_types::str1_length(l)),
+    );
     let was = card.session;
     let closed = was.close();
     Initial {

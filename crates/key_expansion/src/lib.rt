@@ -163,17 +163,17 @@ fn turn(table: &[u8; 256], nk: usize, j: usize, older: Columns, newer: Columns, 
 }
 
 // A key of four words is one row, and so is all that a turn looks back on.
-fn short_rows(key: [u8; 16]) -> [[u8; 16]; 15]
+fn short_rows(table: &[u8; 256], key: [u8; 16]) -> [[u8; 16]; 15]
+    requires { ⌜ now table ≡ sboxTable ⌝ }
     ensures { λ r. ⌜ r ≡ fifteen 4 key ⌝ }
 {
-    let table = sbox::byte_table();
     let mut w = [[0u8; 16]; 15];
     w[0] = key;
     let mut newer = rounds::columns_of(key);
     let mut x: u8 = 1;
     let mut i: usize = 1;
     while i < 11 {
-        let t = turn(&table, 4, 0, newer, newer, x);
+        let t = turn(table, 4, 0, newer, newer, x);
         w[i] = rounds::bytes_of(t.row);
         newer = t.next;
         x = t.x;
@@ -183,11 +183,10 @@ fn short_rows(key: [u8; 16]) -> [[u8; 16]; 15]
 }
 
 // A longer key is two rows, of which the first may be a half.
-fn long_rows(nk: usize, key: &[u8]) -> [[u8; 16]; 15]
-    requires { ⌜ (keyLength (4 * nk) ≡ true) × (4 < nk) × (length (now key) ≡ 4 * nk) ⌝ }
+fn long_rows(table: &[u8; 256], nk: usize, key: &[u8]) -> [[u8; 16]; 15]
+    requires { ⌜ (now table ≡ sboxTable) × (keyLength (4 * nk) ≡ true) × (4 < nk) × (length (now key) ≡ 4 * nk) ⌝ }
     ensures { λ r. ⌜ r ≡ fifteen nk (now (key .entry)) ⌝ }
 {
-    let table = sbox::byte_table();
     let mut w = [[0u8; 16]; 15];
     let first = octets::block_at(key, 0);
     let end = octets::block_at(key, 4 * nk - 16);
@@ -199,7 +198,7 @@ fn long_rows(nk: usize, key: &[u8]) -> [[u8; 16]; 15]
     let mut j: usize = 0;
     let mut i = first_row(nk);
     while i < nk + 7 {
-        let t = turn(&table, nk, j, older, newer, x);
+        let t = turn(table, nk, j, older, newer, x);
         w[i] = rounds::bytes_of(t.row);
         older = newer;
         newer = t.next;
@@ -210,13 +209,13 @@ fn long_rows(nk: usize, key: &[u8]) -> [[u8; 16]; 15]
     w
 }
 
-// KEYEXPANSION: the Nr + 1 round keys, one a row, and zeros behind them.
-pub fn expand(key: &[u8]) -> [[u8; 16]; 15]
-    requires { ⌜ keyLength (length (now key)) ≡ true ⌝ }
+// KEYEXPANSION: the Nr + 1 round keys, one a row, and zeros behind them; by the byte table that is lent.
+pub fn expand(table: &[u8; 256], key: &[u8]) -> [[u8; 16]; 15]
+    requires { ⌜ (now table ≡ sboxTable) × (keyLength (length (now key)) ≡ true) ⌝ }
     ensures { λ r. ⌜ r ≡ fifteen (length (now (key .entry)) / 4) (now (key .entry)) ⌝ }
 {
     if key.len() == 16 {
-        return short_rows(octets::block_at(key, 0));
+        return short_rows(table, octets::block_at(key, 0));
     }
-    long_rows(key.len() / 4, key)
+    long_rows(table, key.len() / 4, key)
 }

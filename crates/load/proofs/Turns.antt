@@ -11,7 +11,7 @@ use lib.ListN.{length, getD, take, drop, set, replicate, length-take, drop-of-le
 use lib.Seq.{length-take-le, drop-cons, getD-take, take-all, paste, paste-suc}
 use Rattle.plaid_types.specs.declared.Mode.{Mode}
 use Rattle.load.specs.Load.{pastMode, some, repeated, replySize, larger, largestSize, filled}
-use Rattle.load.specs.Laws.{map-take}
+use Rattle.load.specs.Laws.{larger-assoc, larger-than-none, map-take}
 
 -- what the i-th of the first n elements leaves behind it
 next : {A : Type 0} (l : List A) (n i : ℕ) (d : A) → i < n → n ≤ length l → drop i (take n l) ≡ getD l i d ∷ drop (i + 1) (take n l)
@@ -47,16 +47,17 @@ again-turn l n i r more all h k m e =
 pub again-done : (l : List ℕ) (n i : ℕ) (r all : Bool) → n ≤ i → (r || repeated (drop i (take n l))) ≡ all → r ≡ all
 again-done l n i r all h e = sym (ap (λ (s : List ℕ). r || repeated s) (rest l n i h) ∙ or-false r) ∙ e
 
--- the look for the largest reply size, from behind: none is seen yet, and then the mode before those that are
-pub size-start : (l : List Mode) (n : ℕ) → 0 ≡ largestSize (drop n (take n l))
-size-start l n = sym (ap largestSize (rest l n n (omega arith)))
+-- the look for the largest reply size
+pub size-turn : (l : List Mode) (n i size mine more all : ℕ) → i < n → n ≤ length l → mine ≡ replySize (getD l i pastMode .len) → more ≡ larger size mine →
+    larger size (largestSize (drop i (take n l))) ≡ all → larger more (largestSize (drop (i + 1) (take n l))) ≡ all
+size-turn l n i size mine more all h k e m s =
+    ap (λ (x : ℕ). larger x (largestSize (drop (i + 1) (take n l)))) (m ∙ ap (larger size) e)
+    ∙ larger-assoc size (replySize (getD l i pastMode .len)) (largestSize (drop (i + 1) (take n l)))
+    ∙ sym (ap (λ (x : List Mode). larger size (largestSize x)) (next l n i pastMode h k))
+    ∙ s
 
-pub size-turn : (l : List Mode) (n i j size mine more : ℕ) → j ≡ i + 1 → i < n → n ≤ length l → mine ≡ replySize (getD l i pastMode .len) → more ≡ larger mine size →
-    size ≡ largestSize (drop j (take n l)) → more ≡ largestSize (drop i (take n l))
-size-turn l n i j size mine more q h k e m s =
-    m
-    ∙ ap₂ larger e (s ∙ ap (λ (x : ℕ). largestSize (drop x (take n l))) q)
-    ∙ sym (ap largestSize (next l n i pastMode h k))
+pub size-done : (l : List Mode) (n i size all : ℕ) → n ≤ i → larger size (largestSize (drop i (take n l))) ≡ all → size ≡ all
+size-done l n i size all h s = sym (ap (λ (x : List Mode). larger size (largestSize x)) (rest l n i h) ∙ larger-than-none size) ∙ s
 
 -- the copy of s into t₀, of which i elements are done
 pub copy-turn : {A : Type 0} (t₀ t s : List A) (i : ℕ) (v z : A) → t ≡ paste t₀ 0 s i → i < length t₀ → i < length s → v ≡ getD s i z →

@@ -7,9 +7,14 @@ use native.Mathlib.Nat.{not-suc-le-zero, le-of-suc-le-suc}
 use native.Mathlib.Omega.{arith}
 use borrow.Author.Tests.{eqb-true, eqb-false, ltb-true, ltb-false, eq-eqb, ne-eqb}
 use lib.Dec.{eqb, ltb}
-use lib.ListN.{length, getD, take, replicate, length-append, length-replicate, length-map, List·getD-append, List·getD-map}
+use lib.ListN.{length, getD, take, replicate, length-append, length-take, length-replicate, length-map, List·getD-append, List·getD-map}
 use lib.Seq.{length-take-le, getD-take, getD-append-add}
+use Rattle.octets.specs.Lists.{part}
+use Rattle.key_expansion.specs.KeyLength.{keyLength, length-least, length-most}
+use Rattle.plaid_types.specs.Keys.{keyLengthOf, wide, held, bytesOf, ofLength}
+use Rattle.plaid_types.specs.KeyLaws.{lawful-is, length-wide, held-wide, length-held}
 use Rattle.plaid_types.specs.Cards.{noSet, noMode, noSession, withSession}
+use Rattle.plaid_types.specs.declared.Value.{Value}
 use Rattle.plaid_types.specs.declared.KeySet.{KeySet}
 use Rattle.plaid_types.specs.declared.KeySetSlot.{KeySetSlot}
 use Rattle.plaid_types.specs.declared.Mode.{Mode}
@@ -17,7 +22,7 @@ use Rattle.plaid_types.specs.declared.ModeSlot.{ModeSlot}
 use Rattle.plaid_types.specs.declared.Session.{Session}
 use Rattle.plaid_types.specs.declared.Card.{Card}
 use Rattle.load.specs.declared.Loaded.{Loaded}
-use Rattle.load.specs.Load.{pastSet, pastMode, some, miscounted, repeated, setIds, modeIds, withHandle, badRecord, replySize, largestSize}
+use Rattle.load.specs.Load.{pastSet, pastMode, some, miscounted, repeated, setIds, modeIds, wrongKeys, withHandle, badRecord, replySize, larger, largestSize}
 use Rattle.load.specs.Load.{modesRefusal, refusal, filled, setSlot, modeSlot, loadedCard, blankCard, loaded}
 
 -- the larger of two is no less than either, and no more than what both are at most
@@ -32,6 +37,31 @@ larger-right a b false e = ltb-false a b e
 larger-below : (a b k : ℕ) (t : Bool) → a ≤ k → b ≤ k → cond t b a ≤ k
 larger-below a b k true h l = l
 larger-below a b k false h l = h
+
+-- so it does not matter which two are taken first, and 0 is no larger
+pub larger-assoc : (a b c : ℕ) → larger (larger a b) c ≡ larger a (larger b c)
+larger-assoc a b c =
+    let ab : ℕ = larger a b in
+    let bc : ℕ = larger b c in
+    let l : ℕ = larger ab c in
+    let r : ℕ = larger a bc in
+    let la = larger-left a b (ltb a b) refl in
+    let lb = larger-right a b (ltb a b) refl in
+    let lab = larger-left ab c (ltb ab c) refl in
+    let lc = larger-right ab c (ltb ab c) refl in
+    let rb = larger-left b c (ltb b c) refl in
+    let rc = larger-right b c (ltb b c) refl in
+    let ra = larger-left a bc (ltb a bc) refl in
+    let rbc = larger-right a bc (ltb a bc) refl in
+    let x : l ≤ r = larger-below ab c r (ltb ab c) (larger-below a b r (ltb a b) ra (omega arith)) (omega arith) in
+    let y : r ≤ l = larger-below a bc l (ltb a bc) (omega arith) (larger-below b c l (ltb b c) (omega arith) lc) in
+    omega arith
+
+pub larger-none : (a : ℕ) → larger 0 a ≡ a
+larger-none a = omega (arith, larger-below 0 a a (ltb 0 a) (omega arith) (omega arith), larger-right 0 a (ltb 0 a) refl)
+
+pub larger-than-none : (a : ℕ) → larger a 0 ≡ a
+larger-than-none a = omega (arith, larger-below a 0 a (ltb a 0) (omega arith) (omega arith), larger-left a 0 (ltb a 0) refl)
 
 -- "the largest that any record needs": no record needs more, and it is the least such number
 pub size-each : (ms : List Mode) (i : ℕ) → i < length ms → replySize (getD ms i pastMode .len) ≤ largestSize ms
@@ -73,9 +103,12 @@ repeated-none (x ∷ xs) (suc i) (suc j) e h k q =
     repeated-none xs i j (neither (some (eqb x) xs) (repeated xs) e .1) (le-of-suc-le-suc h) (le-of-suc-le-suc k) q
 
 -- what a load has shown that is not refused
-pub record Accepted (sets : List KeySet) (n : ℕ) (modes : List Mode) (m area handle : ℕ) : Type 0 where
+pub record Accepted (l : ℕ) (sets : List KeySet) (n : ℕ) (modes : List Mode) (m area : ℕ) (key : Value) (handle : ℕ) : Type 0 where
+  pub length-one : keyLength l ≡ true
   pub sets-some : 0 < n
   pub sets-most : n ≤ 8
+  pub keys-right : wrongKeys l (take n sets) ≡ false
+  pub key-right : key .length ≡ l
   pub ids-once : repeated (setIds (take n sets)) ≡ false
   pub handles-other : withHandle handle (take n sets) ≡ false
   pub modes-some : 0 < m
@@ -91,28 +124,44 @@ counted most n e =
     let l = ltb-false most n (a .1) in
     (omega arith, l)
 
-accepted-by : (sets : List KeySet) (n : ℕ) (modes : List Mode) (m area handle : ℕ) (s t u v w x : Bool) →
+-- a test that is not denied
+denied : (t : Bool) → not t ≡ false → t ≡ true
+denied true e = refl
+denied false e = sym e
+
+right : (l : ℕ) (v : Value) → not (ofLength l v) ≡ false → v .length ≡ l
+right l v e = eqb-true (v .length) l (denied (ofLength l v) e)
+
+accepted-by : (l : ℕ) (sets : List KeySet) (n : ℕ) (modes : List Mode) (m area : ℕ) (key : Value) (handle : ℕ) (q s k t u v w x : Bool) →
+    not (keyLength l) ≡ q →
     miscounted 8 n ≡ s →
+    (wrongKeys l (take n sets) || not (ofLength l key)) ≡ k →
     repeated (setIds (take n sets)) ≡ t →
     withHandle handle (take n sets) ≡ u →
     miscounted 16 m ≡ v →
     repeated (modeIds (take m modes)) ≡ w →
     (ltb 1024 area || some (badRecord area) (take m modes)) ≡ x →
-    _≡_ {A = ℕ} (cond s 1 (cond t 2 (cond u 3 (cond v 4 (cond w 5 (cond x 6 0)))))) 0 →
-    Accepted sets n modes m area handle
-accepted-by sets n modes m area handle true t u v w x es et eu ev ew ex q = absurd (omega arith)
-accepted-by sets n modes m area handle false true u v w x es et eu ev ew ex q = absurd (omega arith)
-accepted-by sets n modes m area handle false false true v w x es et eu ev ew ex q = absurd (omega arith)
-accepted-by sets n modes m area handle false false false true w x es et eu ev ew ex q = absurd (omega arith)
-accepted-by sets n modes m area handle false false false false true x es et eu ev ew ex q = absurd (omega arith)
-accepted-by sets n modes m area handle false false false false false true es et eu ev ew ex q = absurd (omega arith)
-accepted-by sets n modes m area handle false false false false false false es et eu ev ew ex q =
+    _≡_ {A = ℕ} (cond q 21 (cond s 1 (cond k 22 (cond t 2 (cond u 3 (cond v 4 (cond w 5 (cond x 6 0)))))))) 0 →
+    Accepted l sets n modes m area key handle
+accepted-by l sets n modes m area key handle true s k t u v w x eq es ek et eu ev ew ex z = absurd (omega arith)
+accepted-by l sets n modes m area key handle false true k t u v w x eq es ek et eu ev ew ex z = absurd (omega arith)
+accepted-by l sets n modes m area key handle false false true t u v w x eq es ek et eu ev ew ex z = absurd (omega arith)
+accepted-by l sets n modes m area key handle false false false true u v w x eq es ek et eu ev ew ex z = absurd (omega arith)
+accepted-by l sets n modes m area key handle false false false false true v w x eq es ek et eu ev ew ex z = absurd (omega arith)
+accepted-by l sets n modes m area key handle false false false false false true w x eq es ek et eu ev ew ex z = absurd (omega arith)
+accepted-by l sets n modes m area key handle false false false false false false true x eq es ek et eu ev ew ex z = absurd (omega arith)
+accepted-by l sets n modes m area key handle false false false false false false false true eq es ek et eu ev ew ex z = absurd (omega arith)
+accepted-by l sets n modes m area key handle false false false false false false false false eq es ek et eu ev ew ex z =
     let a = counted 8 n es in
     let b = counted 16 m ev in
     let c = neither (ltb 1024 area) (some (badRecord area) (take m modes)) ex in
+    let d = neither (wrongKeys l (take n sets)) (not (ofLength l key)) ek in
     record {
+      length-one = denied (keyLength l) eq;
       sets-some = a .0;
       sets-most = a .1;
+      keys-right = d .0;
+      key-right = right l key (d .1);
       ids-once = et;
       handles-other = eu;
       modes-some = b .0;
@@ -122,61 +171,91 @@ accepted-by sets n modes m area handle false false false false false false es et
       records-good = c .1;
     }
 
-pub accepted : (sets : List KeySet) (n : ℕ) (modes : List Mode) (m area handle : ℕ) → refusal sets n modes m area handle ≡ 0 → Accepted sets n modes m area handle
+pub accepted : (l : ℕ) (sets : List KeySet) (n : ℕ) (modes : List Mode) (m area : ℕ) (key : Value) (handle : ℕ) →
+    refusal l sets n modes m area key handle ≡ 0 →
+    Accepted l sets n modes m area key handle
 unfolding refusal modesRefusal
-accepted sets n modes m area handle q =
-    accepted-by sets n modes m area handle (miscounted 8 n) (repeated (setIds (take n sets))) (withHandle handle (take n sets)) (miscounted 16 m)
-    (repeated (modeIds (take m modes))) (ltb 1024 area || some (badRecord area) (take m modes))
-    refl refl refl refl refl refl q
+accepted l sets n modes m area key handle z =
+    accepted-by l sets n modes m area key handle (not (keyLength l)) (miscounted 8 n) (wrongKeys l (take n sets) || not (ofLength l key))
+    (repeated (setIds (take n sets))) (withHandle handle (take n sets)) (miscounted 16 m) (repeated (modeIds (take m modes)))
+    (ltb 1024 area || some (badRecord area) (take m modes))
+    refl refl refl refl refl refl refl refl z
+
+-- each FAKey counted has L bytes
+module _ {l : ℕ} {sets : List KeySet} {n : ℕ} {modes : List Mode} {m area : ℕ} {key : Value} {handle : ℕ} (k : Accepted l sets n modes m area key handle) where
+  pub set-right : (i : ℕ) → i < n → n ≤ length sets → getD sets i pastSet .«fa_key» .length ≡ l
+  set-right i h g =
+      right l (getD sets i pastSet .«fa_key»)
+      (ap (λ (s : KeySet). not (ofLength l (s .«fa_key»))) (sym (getD-take n sets i pastSet h))
+      ∙ some-none (λ (s : KeySet). not (ofLength l (s .«fa_key»))) (take n sets) pastSet i (k .keys-right) (omega (arith, length-take-le n sets g)))
+
+-- a key of L bytes has 16 to 32
+pub key-within : (l : ℕ) (v : Value) → keyLength l ≡ true → v .length ≡ l → (16 ≤ v .length) × (v .length ≤ 32)
+key-within l v k e = (omega (arith, length-least l k), omega (arith, length-most l k))
+
+-- a key as a card holds it has 32 bytes, of which the first L are the key's
+kept-long : (v : Value) → v .length ≤ 32 → length (wide (bytesOf v)) ≡ 32
+unfolding held part
+kept-long v h = length-wide (bytesOf v) (omega (arith, length-take (v .length) (v .bytes)))
+
+pub key-kept : (l : ℕ) (v : Value) → keyLength l ≡ true → length (v .bytes) ≡ 32 → v .length ≡ l → held l (wide (bytesOf v)) ≡ bytesOf v
+key-kept l v k b e =
+    let h = length-most l k in
+    held-wide l (bytesOf v) (length-held (v .length) (v .bytes) (omega arith) ∙ e)
 
 -- the two answers of a load
-module _ (sets : List KeySet) (n : ℕ) (modes : List Mode) (m : ℕ) (area div key : List ℕ) (handle : ℕ) where
-  pub load-made : refusal sets n modes m (length area) handle ≡ 0 →
-      loaded sets n modes m area div key handle ≡ record { number = 0; card = loadedCard (take n sets) (take m modes) area div key handle }
+module _ (l : ℕ) (sets : List KeySet) (n : ℕ) (modes : List Mode) (m : ℕ) (area div : List ℕ) (key : Value) (handle : ℕ) where
+  pub load-made : refusal l sets n modes m (length area) key handle ≡ 0 →
+      loaded l sets n modes m area div key handle ≡ record { number = 0; card = loadedCard l (take n sets) (take m modes) area div key handle }
   unfolding loaded
-  load-made e = simp (eq-eqb (refusal sets n modes m (length area) handle) 0 e)
+  load-made e = simp (eq-eqb (refusal l sets n modes m (length area) key handle) 0 e)
 
-  pub load-refused : (refusal sets n modes m (length area) handle ≡ 0 → ⊥) →
-      loaded sets n modes m area div key handle ≡ record { number = refusal sets n modes m (length area) handle; card = blankCard }
+  pub load-refused : (refusal l sets n modes m (length area) key handle ≡ 0 → ⊥) →
+      loaded l sets n modes m area div key handle ≡ record { number = refusal l sets n modes m (length area) key handle; card = blankCard }
   unfolding loaded
-  load-refused e = simp (ne-eqb (refusal sets n modes m (length area) handle) 0 e)
+  load-refused e = simp (ne-eqb (refusal l sets n modes m (length area) key handle) 0 e)
 
 -- T-01: "Load refusal 7 no longer occurs."
-not-seven : (s t u v w x : Bool) → _≡_ {A = ℕ} (cond s 1 (cond t 2 (cond u 3 (cond v 4 (cond w 5 (cond x 6 0)))))) 7 → ⊥
-not-seven true t u v w x q = omega arith
-not-seven false true u v w x q = omega arith
-not-seven false false true v w x q = omega arith
-not-seven false false false true w x q = omega arith
-not-seven false false false false true x q = omega arith
-not-seven false false false false false true q = omega arith
-not-seven false false false false false false q = omega arith
+not-seven : (q s k t u v w x : Bool) → _≡_ {A = ℕ} (cond q 21 (cond s 1 (cond k 22 (cond t 2 (cond u 3 (cond v 4 (cond w 5 (cond x 6 0)))))))) 7 → ⊥
+not-seven true s k t u v w x z = omega arith
+not-seven false true k t u v w x z = omega arith
+not-seven false false true t u v w x z = omega arith
+not-seven false false false true u v w x z = omega arith
+not-seven false false false false true v w x z = omega arith
+not-seven false false false false false true w x z = omega arith
+not-seven false false false false false false true x z = omega arith
+not-seven false false false false false false false true z = omega arith
+not-seven false false false false false false false false z = omega arith
 
 number-of : (r : ℕ) (c : Card) (t : Bool) → eqb r 0 ≡ t → cond {A = Loaded} t (record { number = 0; card = c }) (record { number = r; card = blankCard }) .number ≡ r
 number-of r c true e = sym (eqb-true r 0 e)
 number-of r c false e = refl
 
-module _ (sets : List KeySet) (n : ℕ) (modes : List Mode) (m : ℕ) (area div key : List ℕ) (handle : ℕ) where
-  pub load-number : loaded sets n modes m area div key handle .number ≡ refusal sets n modes m (length area) handle
+module _ (l : ℕ) (sets : List KeySet) (n : ℕ) (modes : List Mode) (m : ℕ) (area div : List ℕ) (key : Value) (handle : ℕ) where
+  pub load-number : loaded l sets n modes m area div key handle .number ≡ refusal l sets n modes m (length area) key handle
   unfolding loaded
   load-number =
-      number-of (refusal sets n modes m (length area) handle) (loadedCard (take n sets) (take m modes) area div key handle)
-      (eqb (refusal sets n modes m (length area) handle) 0) refl
+      number-of (refusal l sets n modes m (length area) key handle) (loadedCard l (take n sets) (take m modes) area div key handle)
+      (eqb (refusal l sets n modes m (length area) key handle) 0) refl
 
-  pub no-seven : loaded sets n modes m area div key handle .number ≡ 7 → ⊥
+  pub no-seven : loaded l sets n modes m area div key handle .number ≡ 7 → ⊥
   unfolding refusal modesRefusal
   no-seven q =
-      not-seven (miscounted 8 n) (repeated (setIds (take n sets))) (withHandle handle (take n sets)) (miscounted 16 m) (repeated (modeIds (take m modes)))
+      not-seven (not (keyLength l)) (miscounted 8 n) (wrongKeys l (take n sets) || not (ofLength l key)) (repeated (setIds (take n sets)))
+      (withHandle handle (take n sets)) (miscounted 16 m) (repeated (modeIds (take m modes)))
       (ltb 1024 (length area) || some (badRecord (length area)) (take m modes)) (sym load-number ∙ q)
 
--- a load looks at the sets counted, and at none where it refuses their count
-module _ (a b : List KeySet) (n : ℕ) (modes : List Mode) (m : ℕ) (area div key : List ℕ) (handle : ℕ) where
-  counted-by : (t : Bool) → miscounted 8 n ≡ t → (n ≤ 8 → take n a ≡ take n b) → loaded a n modes m area div key handle ≡ loaded b n modes m area div key handle
+-- a load looks at the sets counted, and at none where it refuses L or their count
+module _ (l : ℕ) (a b : List KeySet) (n : ℕ) (modes : List Mode) (m : ℕ) (area div : List ℕ) (key : Value) (handle : ℕ) where
+  counted-by : (s t : Bool) → not (keyLength l) ≡ s → miscounted 8 n ≡ t → (n ≤ 8 → take n a ≡ take n b) →
+      loaded l a n modes m area div key handle ≡ loaded l b n modes m area div key handle
   unfolding loaded refusal
-  counted-by true e h = simp e
-  counted-by false e h = simp (h (counted 8 n e .1))
+  counted-by true t d e h = simp d
+  counted-by false true d e h = simp (d, e)
+  counted-by false false d e h = simp (h (counted 8 n e .1))
 
-  pub counted-only : (n ≤ 8 → take n a ≡ take n b) → loaded a n modes m area div key handle ≡ loaded b n modes m area div key handle
-  counted-only = counted-by (miscounted 8 n) refl
+  pub counted-only : (n ≤ 8 → take n a ≡ take n b) → loaded l a n modes m area div key handle ≡ loaded l b n modes m area div key handle
+  counted-only = counted-by (not (keyLength l)) (miscounted 8 n) refl refl
 
 -- slots that are filled from the first on: how many, which hold what was given, and which are empty
 pub length-filled : {A : Type 0} (k : ℕ) (d : A) (l : List A) → length l ≤ k → length (filled k d l) ≡ k
@@ -212,20 +291,20 @@ setAt c i = getD (c .sets) i noSet
 abbrev pub modeAt : Card → ℕ → ModeSlot
 modeAt c i = getD (c .modes) i noMode
 
-module _ (sets : List KeySet) (modes : List Mode) (area div key : List ℕ) (handle : ℕ) where
-  pub set-held : (i : ℕ) → i < length sets → setAt (loadedCard sets modes area div key handle) i ≡ setSlot (getD sets i pastSet)
+module _ (l : ℕ) (sets : List KeySet) (modes : List Mode) (area div : List ℕ) (key : Value) (handle : ℕ) where
+  pub set-held : (i : ℕ) → i < length sets → setAt (loadedCard l sets modes area div key handle) i ≡ setSlot (getD sets i pastSet)
   unfolding loadedCard
   set-held i h = filled-at 8 noSet (map setSlot sets) i (omega (arith, length-map sets setSlot)) ∙ map-at setSlot sets i pastSet noSet h
 
-  pub set-empty : (i : ℕ) → length sets ≤ i → setAt (loadedCard sets modes area div key handle) i ≡ noSet
+  pub set-empty : (i : ℕ) → length sets ≤ i → setAt (loadedCard l sets modes area div key handle) i ≡ noSet
   unfolding loadedCard
   set-empty i h = filled-rest 8 noSet (map setSlot sets) i (omega (arith, length-map sets setSlot))
 
-  pub mode-held : (i : ℕ) → i < length modes → modeAt (loadedCard sets modes area div key handle) i ≡ modeSlot (getD modes i pastMode)
+  pub mode-held : (i : ℕ) → i < length modes → modeAt (loadedCard l sets modes area div key handle) i ≡ modeSlot (getD modes i pastMode)
   unfolding loadedCard
   mode-held i h = filled-at 16 noMode (map modeSlot modes) i (omega (arith, length-map modes modeSlot)) ∙ map-at modeSlot modes i pastMode noMode h
 
-  pub mode-empty : (i : ℕ) → length modes ≤ i → modeAt (loadedCard sets modes area div key handle) i ≡ noMode
+  pub mode-empty : (i : ℕ) → length modes ≤ i → modeAt (loadedCard l sets modes area div key handle) i ≡ noMode
   unfolding loadedCard
   mode-empty i h = filled-rest 16 noMode (map modeSlot modes) i (omega (arith, length-map modes modeSlot))
 
@@ -242,8 +321,9 @@ pub record Stocked (c : Card) : Type 0 where
   pub modes-long : length (c .modes) ≡ 16
   pub area-long : length (c .area) ≡ 1024
   pub div-long : length (c .«div_data») ≡ 16
-  pub key-long : length (c .«shill_key») ≡ 16
-  pub fa-long : (i : ℕ) → length (setAt c i .«fa_key») ≡ 16
+  pub length-one : keyLength (c .«key_length») ≡ true
+  pub key-long : length (c .«shill_key») ≡ 32
+  pub fa-long : (i : ℕ) → length (setAt c i .«fa_key») ≡ 32
   pub size-least : 2 ≤ c .«reply_size»
   pub size-most : c .«reply_size» ≤ 6
   pub good : (i : ℕ) → modeAt c i .held ≡ true → GoodRecord (modeAt c i) (c .«reply_size»)
@@ -254,6 +334,10 @@ pub record Stocked (c : Card) : Type 0 where
 pub record IsLoaded (c : Card) : Type 0 where
   pub stocked : Stocked c
   pub no-session : c .session ≡ noSession
+
+-- L of a card is the length that it keeps
+pub stocked-length : (c : Card) → Stocked c → keyLengthOf c ≡ c .«key_length»
+stocked-length c k = sym (lawful-is (c .«key_length») (keyLength (c .«key_length»)) refl (k .length-one))
 
 -- a slot that is held was given
 mode-held-by : (s : ModeSlot) → s ≡ noMode → s .held ≡ true → ⊥
@@ -271,50 +355,50 @@ good-by m area B e h q =
     let v = ltb-false area (m .start + m .len) (y .1) in
     record { some-bytes = omega arith; most-bytes = u; inside = omega arith; size = q }
 
-module _ (sets : List KeySet) (modes : List Mode) (area div key : List ℕ) (handle : ℕ) where
-  set-given-by : (i : ℕ) (t : Bool) → ltb i (length sets) ≡ t → setAt (loadedCard sets modes area div key handle) i .held ≡ true → i < length sets
+module _ (l : ℕ) (sets : List KeySet) (modes : List Mode) (area div : List ℕ) (key : Value) (handle : ℕ) where
+  set-given-by : (i : ℕ) (t : Bool) → ltb i (length sets) ≡ t → setAt (loadedCard l sets modes area div key handle) i .held ≡ true → i < length sets
   set-given-by i true e h = ltb-true i (length sets) e
-  set-given-by i false e h = absurd (set-held-by _ (set-empty sets modes area div key handle i (ltb-false i (length sets) e)) h)
+  set-given-by i false e h = absurd (set-held-by _ (set-empty l sets modes area div key handle i (ltb-false i (length sets) e)) h)
 
-  pub set-given : (i : ℕ) → setAt (loadedCard sets modes area div key handle) i .held ≡ true → i < length sets
+  pub set-given : (i : ℕ) → setAt (loadedCard l sets modes area div key handle) i .held ≡ true → i < length sets
   set-given i h = set-given-by i (ltb i (length sets)) refl h
 
-  mode-given-by : (i : ℕ) (t : Bool) → ltb i (length modes) ≡ t → modeAt (loadedCard sets modes area div key handle) i .held ≡ true → i < length modes
+  mode-given-by : (i : ℕ) (t : Bool) → ltb i (length modes) ≡ t → modeAt (loadedCard l sets modes area div key handle) i .held ≡ true → i < length modes
   mode-given-by i true e h = ltb-true i (length modes) e
-  mode-given-by i false e h = absurd (mode-held-by _ (mode-empty sets modes area div key handle i (ltb-false i (length modes) e)) h)
+  mode-given-by i false e h = absurd (mode-held-by _ (mode-empty l sets modes area div key handle i (ltb-false i (length modes) e)) h)
 
-  pub mode-given : (i : ℕ) → modeAt (loadedCard sets modes area div key handle) i .held ≡ true → i < length modes
+  pub mode-given : (i : ℕ) → modeAt (loadedCard l sets modes area div key handle) i .held ≡ true → i < length modes
   mode-given i h = mode-given-by i (ltb i (length modes)) refl h
 
-  set-id : (i : ℕ) → i < length sets → setAt (loadedCard sets modes area div key handle) i .id .0 ≡ getD (setIds sets) i 0
+  set-id : (i : ℕ) → i < length sets → setAt (loadedCard l sets modes area div key handle) i .id .0 ≡ getD (setIds sets) i 0
   set-id i h =
-      ap (λ (s : KeySetSlot). s .id .0) (set-held sets modes area div key handle i h) ∙ sym (List·getD-map (λ (x : KeySet). x .id .0) sets i pastSet)
+      ap (λ (s : KeySetSlot). s .id .0) (set-held l sets modes area div key handle i h) ∙ sym (List·getD-map (λ (x : KeySet). x .id .0) sets i pastSet)
 
-  mode-id : (i : ℕ) → i < length modes → modeAt (loadedCard sets modes area div key handle) i .id .0 ≡ getD (modeIds modes) i 0
+  mode-id : (i : ℕ) → i < length modes → modeAt (loadedCard l sets modes area div key handle) i .id .0 ≡ getD (modeIds modes) i 0
   mode-id i h =
-      ap (λ (s : ModeSlot). s .id .0) (mode-held sets modes area div key handle i h) ∙ sym (List·getD-map (λ (x : Mode). x .id .0) modes i pastMode)
+      ap (λ (s : ModeSlot). s .id .0) (mode-held l sets modes area div key handle i h) ∙ sym (List·getD-map (λ (x : Mode). x .id .0) modes i pastMode)
 
-  fa-by : (i : ℕ) (t : Bool) → ltb i (length sets) ≡ t → ((j : ℕ) → j < length sets → length (getD sets j pastSet .«fa_key») ≡ 16) →
-      length (setAt (loadedCard sets modes area div key handle) i .«fa_key») ≡ 16
+  fa-by : (i : ℕ) (t : Bool) → ltb i (length sets) ≡ t → ((j : ℕ) → j < length sets → getD sets j pastSet .«fa_key» .length ≤ 32) →
+      length (setAt (loadedCard l sets modes area div key handle) i .«fa_key») ≡ 32
   fa-by i true e f =
       let h = ltb-true i (length sets) e in
-      ap (λ (s : KeySetSlot). length (s .«fa_key»)) (set-held sets modes area div key handle i h) ∙ f i h
-  fa-by i false e f = ap (λ (s : KeySetSlot). length (s .«fa_key»)) (set-empty sets modes area div key handle i (ltb-false i (length sets) e))
+      ap (λ (s : KeySetSlot). length (s .«fa_key»)) (set-held l sets modes area div key handle i h) ∙ kept-long (getD sets i pastSet .«fa_key») (f i h)
+  fa-by i false e f = ap (λ (s : KeySetSlot). length (s .«fa_key»)) (set-empty l sets modes area div key handle i (ltb-false i (length sets) e))
 
   set-once-by : (i j : ℕ) → repeated (setIds sets) ≡ false → i < j → i < length sets → j < length sets →
-      setAt (loadedCard sets modes area div key handle) i .id .0 ≡ setAt (loadedCard sets modes area div key handle) j .id .0 → ⊥
+      setAt (loadedCard l sets modes area div key handle) i .id .0 ≡ setAt (loadedCard l sets modes area div key handle) j .id .0 → ⊥
   set-once-by i j e h p q z =
       repeated-none (setIds sets) i j e h (omega (arith, length-map sets (λ (x : KeySet). x .id .0))) (sym (set-id i p) ∙ z ∙ set-id j q)
 
   mode-once-by : (i j : ℕ) → repeated (modeIds modes) ≡ false → i < j → i < length modes → j < length modes →
-      modeAt (loadedCard sets modes area div key handle) i .id .0 ≡ modeAt (loadedCard sets modes area div key handle) j .id .0 → ⊥
+      modeAt (loadedCard l sets modes area div key handle) i .id .0 ≡ modeAt (loadedCard l sets modes area div key handle) j .id .0 → ⊥
   mode-once-by i j e h p q z =
       repeated-none (modeIds modes) i j e h (omega (arith, length-map modes (λ (x : Mode). x .id .0))) (sym (mode-id i p) ∙ z ∙ mode-id j q)
 
-  handle-by : (i : ℕ) → withHandle handle sets ≡ false → i < length sets → setAt (loadedCard sets modes area div key handle) i .handle ≡ handle → ⊥
+  handle-by : (i : ℕ) → withHandle handle sets ≡ false → i < length sets → setAt (loadedCard l sets modes area div key handle) i .handle ≡ handle → ⊥
   handle-by i e h z =
       eqb-false (getD sets i pastSet .handle) handle (some-none (λ (x : KeySet). eqb (x .handle) handle) sets pastSet i e h)
-      (sym (ap (λ (s : KeySetSlot). s .handle) (set-held sets modes area div key handle i h)) ∙ z)
+      (sym (ap (λ (s : KeySetSlot). s .handle) (set-held l sets modes area div key handle i h)) ∙ z)
 
   record-good : (i : ℕ) → some (badRecord (length area)) modes ≡ false → length area ≤ 1024 → i < length modes →
       GoodRecord (modeSlot (getD modes i pastMode)) (largestSize modes)
@@ -322,47 +406,63 @@ module _ (sets : List KeySet) (modes : List Mode) (area div key : List ℕ) (han
       good-by (getD modes i pastMode) (length area) (largestSize modes) (some-none (badRecord (length area)) modes pastMode i r h) a (size-each modes i h)
 
   mode-good : (i : ℕ) → some (badRecord (length area)) modes ≡ false → length area ≤ 1024 → i < length modes →
-      GoodRecord (modeAt (loadedCard sets modes area div key handle) i) (largestSize modes)
+      GoodRecord (modeAt (loadedCard l sets modes area div key handle) i) (largestSize modes)
   mode-good i r a h =
-      subst (λ (s : ModeSlot). GoodRecord s (largestSize modes)) (sym (mode-held sets modes area div key handle i h)) (record-good i r a h)
+      subst (λ (s : ModeSlot). GoodRecord s (largestSize modes)) (sym (mode-held l sets modes area div key handle i h)) (record-good i r a h)
 
 -- a load that is not refused makes a loaded card. The lengths are those that the types of its inputs say, and there are as many sets as are counted
-pub is-loaded : (sets : List KeySet) (n : ℕ) (modes : List Mode) (m : ℕ) (area div key : List ℕ) (handle : ℕ) →
-    refusal sets n modes m (length area) handle ≡ 0 →
+pub is-loaded : (l : ℕ) (sets : List KeySet) (n : ℕ) (modes : List Mode) (m : ℕ) (area div : List ℕ) (key : Value) (handle : ℕ) →
+    refusal l sets n modes m (length area) key handle ≡ 0 →
     n ≤ length sets →
     length modes ≡ 16 →
     length div ≡ 16 →
-    length key ≡ 16 →
-    ((i : ℕ) → i < n → length (getD sets i pastSet .«fa_key») ≡ 16) →
-    IsLoaded (loadedCard (take n sets) (take m modes) area div key handle)
+    IsLoaded (loadedCard l (take n sets) (take m modes) area div key handle)
 unfolding loadedCard
-is-loaded sets n modes m area div key handle z ls lm ld lk lf =
-    let k = accepted sets n modes m (length area) handle z in
+is-loaded l sets n modes m area div key handle z ls lm ld =
+    let k = accepted l sets n modes m (length area) key handle z in
     let s : List KeySet = take n sets in
-    let l : List Mode = take m modes in
+    let t : List Mode = take m modes in
     let hs : length s ≡ n = length-take-le n sets ls in
-    let hl : length l ≡ m = length-take-le m modes (omega (arith, k .modes-most)) in
-    let g : (i : ℕ) → i < length l → GoodRecord (modeSlot (getD l i pastMode)) (largestSize l) = λ i h. record-good s l area div key handle i (k .records-good) (k .area-most) h in
+    let ht : length t ≡ m = length-take-le m modes (omega (arith, k .modes-most)) in
+    let hl : l ≤ 32 = length-most l (k .length-one) in
+    let g : (i : ℕ) → i < length t → GoodRecord (modeSlot (getD t i pastMode)) (largestSize t) = λ i h. record-good l s t area div key handle i (k .records-good) (k .area-most) h in
     record {
       stocked =
           record {
             sets-long = length-filled 8 noSet (map setSlot s) (omega (arith, length-map s setSlot, k .sets-most));
-            modes-long = length-filled 16 noMode (map modeSlot l) (omega (arith, length-map l modeSlot, k .modes-most));
+            modes-long = length-filled 16 noMode (map modeSlot t) (omega (arith, length-map t modeSlot, k .modes-most));
             area-long = length-filled 1024 0 area (k .area-most);
             div-long = ld;
-            key-long = lk;
+            length-one = k .length-one;
+            key-long = kept-long key (omega (arith, k .key-right));
             fa-long =
-                λ i. fa-by s l area div key handle i (ltb i (length s)) refl
-                (λ j h. ap (λ (x : KeySet). length (x .«fa_key»)) (getD-take n sets j pastSet (omega arith)) ∙ lf j (omega arith));
+                λ i. fa-by l s t area div key handle i (ltb i (length s)) refl
+                (λ j h. omega (arith, ap (λ (x : KeySet). x .«fa_key» .length) (getD-take n sets j pastSet (omega arith)), set-right k j (omega arith) ls));
             size-least = omega (arith, g 0 (omega (arith, k .modes-some)) .size);
-            size-most = size-below l 6 (λ i h. omega (arith, g i h .most-bytes));
-            good = λ i h. mode-good s l area div key handle i (k .records-good) (k .area-most) (mode-given s l area div key handle i h);
-            set-once = λ i j h p q. set-once-by s l area div key handle i j (k .ids-once) h (set-given s l area div key handle i p) (set-given s l area div key handle j q);
-            mode-once = λ i j h p q. mode-once-by s l area div key handle i j (k .mode-ids-once) h (mode-given s l area div key handle i p) (mode-given s l area div key handle j q);
-            handle-other = λ i h. handle-by s l area div key handle i (k .handles-other) (set-given s l area div key handle i h);
+            size-most = size-below t 6 (λ i h. omega (arith, g i h .most-bytes));
+            good = λ i h. mode-good l s t area div key handle i (k .records-good) (k .area-most) (mode-given l s t area div key handle i h);
+            set-once = λ i j h p q. set-once-by l s t area div key handle i j (k .ids-once) h (set-given l s t area div key handle i p) (set-given l s t area div key handle j q);
+            mode-once = λ i j h p q. mode-once-by l s t area div key handle i j (k .mode-ids-once) h (mode-given l s t area div key handle i p) (mode-given l s t area div key handle j q);
+            handle-other = λ i h. handle-by l s t area div key handle i (k .handles-other) (set-given l s t area div key handle i h);
           };
       no-session = refl;
     }
+
+-- T-04: what its card holds, at L, are the keys that were given
+module _ (l : ℕ) (sets : List KeySet) (n : ℕ) (modes : List Mode) (m : ℕ) (area div : List ℕ) (key : Value) (handle : ℕ) (z : refusal l sets n modes m (length area) key handle ≡ 0) where
+  pub set-kept : n ≤ length sets → (i : ℕ) → i < n → length (getD sets i pastSet .«fa_key» .bytes) ≡ 32 →
+      held l (setAt (loadedCard l (take n sets) (take m modes) area div key handle) i .«fa_key») ≡ bytesOf (getD sets i pastSet .«fa_key»)
+  set-kept ls i h b =
+      let k = accepted l sets n modes m (length area) key handle z in
+      ap (λ (s : KeySetSlot). held l (s .«fa_key»)) (set-held l (take n sets) (take m modes) area div key handle i (omega (arith, length-take-le n sets ls)))
+      ∙ ap (λ (s : KeySet). held l (setSlot s .«fa_key»)) (getD-take n sets i pastSet h)
+      ∙ key-kept l (getD sets i pastSet .«fa_key») (k .length-one) b (set-right k i h ls)
+
+  pub shill-kept : length (key .bytes) ≡ 32 → held l (loadedCard l (take n sets) (take m modes) area div key handle .«shill_key») ≡ bytesOf key
+  unfolding loadedCard
+  shill-kept b =
+      let k = accepted l sets n modes m (length area) key handle z in
+      key-kept l key (k .length-one) b (k .key-right)
 
 -- another session leaves all but the session
 pub stocked-session : (c : Card) (s : Session) → Stocked c → Stocked (withSession c s)
@@ -372,6 +472,7 @@ stocked-session c s k =
       modes-long = k .modes-long;
       area-long = k .area-long;
       div-long = k .div-long;
+      length-one = k .length-one;
       key-long = k .key-long;
       fa-long = k .fa-long;
       size-least = k .size-least;

@@ -1,11 +1,14 @@
--- Document 01, "The card", of a load, and of "When an operation declines", the faults of a load; with T-01 of document 02.
-use mathlib.Core.Bool.{Bool, true, false, cond, _||_}
+-- Document 01, "The card", of a load, and of "When an operation declines", the faults of a load; with T-01 and T-04 of document 02.
+use mathlib.Core.Bool.{Bool, true, false, cond, not, _||_}
 use mathlib.Core.List.{List, [], _∷_, _++_, map}
 use Prim.Native.Nat.{ℕ, _+_, _-_}
 use lib.Dec.{eqb, ltb}
 use lib.ListN.{length, take, replicate}
 use Rattle.padding.specs.Method2.{blocksFor}
+use Rattle.key_expansion.specs.KeyLength.{keyLength}
+use Rattle.plaid_types.specs.Keys.{wide, bytesOf, noValue, ofLength}
 use Rattle.plaid_types.specs.Cards.{noSet, noMode, noSession}
+use Rattle.plaid_types.specs.declared.Value.{Value}
 use Rattle.plaid_types.specs.declared.KeySet.{KeySet}
 use Rattle.plaid_types.specs.declared.KeySetSlot.{KeySetSlot}
 use Rattle.plaid_types.specs.declared.Mode.{Mode}
@@ -15,7 +18,7 @@ use Rattle.load.specs.declared.Loaded.{Loaded}
 
 -- what a list of key sets or of modes gives past its end
 abbrev pub pastSet : KeySet
-pastSet = record { id = record { 0 = 0 }; handle = 0; «fa_key» = [] }
+pastSet = record { id = record { 0 = 0 }; handle = 0; «fa_key» = record { length = 0; bytes = [] } }
 
 abbrev pub pastMode : Mode
 pastMode = record { id = record { 0 = 0 }; start = 0; len = 0 }
@@ -39,6 +42,10 @@ setIds = map (λ (k : KeySet). k .id .0)
 
 abbrev pub modeIds : List Mode → List ℕ
 modeIds = map (λ (m : Mode). m .id .0)
+
+-- T-04: "22 a key .. not of L bytes", of the FAKeys of key sets
+abbrev pub wrongKeys : ℕ → List KeySet → Bool
+wrongKeys l = some (λ (k : KeySet). not (ofLength l (k .«fa_key»)))
 
 -- "a set with the shill handle"
 abbrev pub withHandle : ℕ → List KeySet → Bool
@@ -70,47 +77,53 @@ modesRefusal modes m area =
     0))
 
 -- "1 count of key sets; 2 repeated KeySetID; 3 a set with the shill handle", of the first n of `sets`, then those above. "Where several apply, the
--- first in the order written is given"
-unfoldable pub refusal : List KeySet → ℕ → List Mode → ℕ → ℕ → ℕ → ℕ
-refusal sets n modes m area handle =
-    cond (miscounted 8 n) 1
+-- first in the order written is given". T-04: "21 L is none of the three, first at load ..; 22 a key .. not of L bytes, directly after 1", the shill
+-- key too
+unfoldable pub refusal : ℕ → List KeySet → ℕ → List Mode → ℕ → ℕ → Value → ℕ → ℕ
+refusal l sets n modes m area key handle =
+    cond (not (keyLength l)) 21
+    (cond (miscounted 8 n) 1
+    (cond (wrongKeys l (take n sets) || not (ofLength l key)) 22
     (cond (repeated (setIds (take n sets))) 2
     (cond (withHandle handle (take n sets)) 3
-    (modesRefusal modes m area)))
+    (modesRefusal modes m area)))))
 
 -- "Key sets and modes fill their slots from the first on, in the order given; the rest are empty": l, and d behind it up to n. Shut: with a
 -- numeral for n the library's own replicate computes to as many elements
 unfoldable pub filled : {A : Type 0} → ℕ → A → List A → List A
 filled n d l = l ++ replicate (n - length l) d
 
+-- T-04: "Cards with 24 and 32-byte keys": a slot holds the FAKey's bytes, with zeros behind them
 abbrev pub setSlot : KeySet → KeySetSlot
-setSlot k = record { held = true; id = k .id; handle = k .handle; «fa_key» = k .«fa_key» }
+setSlot k = record { held = true; id = k .id; handle = k .handle; «fa_key» = wide (bytesOf (k .«fa_key»)) }
 
 abbrev pub modeSlot : Mode → ModeSlot
 modeSlot m = record { held = true; id = m .id; start = m .start; len = m .len }
 
 -- "they and the record area, at most 1,024 bytes, are copied into the card"; "DivData (16 bytes), a shill AES key and a shill RSA handle"; "A new
--- card has" no session. The area is followed by zeros
-unfoldable pub loadedCard : List KeySet → List Mode → List ℕ → List ℕ → List ℕ → ℕ → Card
-loadedCard sets modes area div key handle =
+-- card has" no session. The area is followed by zeros. T-04: "A card and its reader have one key length L", which it
+-- keeps
+unfoldable pub loadedCard : ℕ → List KeySet → List Mode → List ℕ → List ℕ → Value → ℕ → Card
+loadedCard l sets modes area div key handle =
     record {
       sets = filled 8 noSet (map setSlot sets);
       modes = filled 16 noMode (map modeSlot modes);
       area = filled 1024 0 area;
       «div_data» = div;
-      «shill_key» = key;
+      «shill_key» = wide (bytesOf key);
       «shill_handle» = handle;
+      «key_length» = l;
       «reply_size» = largestSize modes;
       session = noSession;
     }
 
 -- what stands in the place of a card where a load is refused: all slots empty, all numbers 0
 unfoldable pub blankCard : Card
-blankCard = loadedCard [] [] [] (replicate 16 0) (replicate 16 0) 0
+blankCard = loadedCard 0 [] [] [] (replicate 16 0) noValue 0
 
 -- "No card results" where a load is refused; else the number is 0
-unfoldable pub loaded : List KeySet → ℕ → List Mode → ℕ → List ℕ → List ℕ → List ℕ → ℕ → Loaded
-loaded sets n modes m area div key handle =
-    cond (eqb (refusal sets n modes m (length area) handle) 0)
-    (record { number = 0; card = loadedCard (take n sets) (take m modes) area div key handle })
-    (record { number = refusal sets n modes m (length area) handle; card = blankCard })
+unfoldable pub loaded : ℕ → List KeySet → ℕ → List Mode → ℕ → List ℕ → List ℕ → Value → ℕ → Loaded
+loaded l sets n modes m area div key handle =
+    cond (eqb (refusal l sets n modes m (length area) key handle) 0)
+    (record { number = 0; card = loadedCard l (take n sets) (take m modes) area div key handle })
+    (record { number = refusal l sets n modes m (length area) key handle; card = blankCard })

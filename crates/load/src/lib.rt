@@ -7,18 +7,22 @@ use plaid_types::Mode;
 use plaid_types::ModeSlot;
 use plaid_types::OpModeId;
 use plaid_types::Session;
+use plaid_types::Value;
 ghost use mathlib.Core.Path.{_≡_};
-ghost use mathlib.Core.Bool.{_||_};
+ghost use mathlib.Core.Bool.{not, _||_};
 ghost use mathlib.Core.List.{[], map};
-ghost use Prim.Native.Nat.{_+_, _<_, _≤_};
+ghost use Prim.Native.Nat.{ℕ, _+_, _<_, _≤_};
 ghost use lib.Dec.{eqb};
 ghost use lib.ListN.{length, take, drop, getD};
+ghost use Rattle.plaid_types.specs.Keys.{wide, bytesOf, ofLength};
 ghost use Rattle.plaid_types.specs.Cards.{noSet, noMode};
 ghost use Rattle.load.specs.Load.{
+  pastSet,
   some,
   repeated,
   setIds,
   modeIds,
+  wrongKeys,
   withHandle,
   badRecord,
   replySize,
@@ -80,13 +84,14 @@ fn again(ids: &[u16], i: usize, n: usize) -> bool
     ensures { λ r. ⌜ r ≡ some (eqb (getD (now (ids .entry)) i 0)) (drop (i + 1) (take n (now (ids .entry)))) ⌝ }
 {
     let x = ids[i];
-    let mut r = false;
     let mut j = i + 1;
     while j < n {
-        r = either(r, x == ids[j]);
+        if x == ids[j] {
+            return true;
+        }
         j += 1;
     }
-    r
+    false
 }
 
 // Whether one of the first n numbers stands again.
@@ -94,27 +99,46 @@ pub fn repeats(ids: &[u16], n: usize) -> bool
     requires { ⌜ n ≤ length (now ids) ⌝ }
     ensures { λ r. ⌜ r ≡ repeated (take n (now (ids .entry))) ⌝ }
 {
-    let mut r = false;
     let mut i: usize = 0;
     while i < n {
-        r = either(r, again(ids, i, n));
+        if again(ids, i, n) {
+            return true;
+        }
         i += 1;
     }
-    r
+    false
 }
 
-fn has_handle(sets: [KeySet; Card::KEY_SETS], n: usize, handle: u8) -> bool
-    requires { ⌜ n ≤ 8 ⌝ }
-    ensures { λ r. ⌜ r ≡ withHandle handle (take n sets) ⌝ }
+// One that says it has more bytes than it can hold has another length too.
+fn wrong_length(l: usize, key: Value) -> bool
+    ensures { λ r. ⌜ r ≡ not (ofLength l key) ⌝ }
 {
-    let mut r = false;
+    key.length as usize != l
+}
+
+// Whether one of the first n sets has a key of another length, or the shill handle.
+struct Wrong {
+    key: bool,
+    handle: bool,
+}
+
+// One loop for both: each loop over key sets costs a copy of all eight.
+fn wrong_sets(l: usize, sets: [KeySet; Card::KEY_SETS], n: usize, handle: u8) -> Wrong
+    requires { ⌜ n ≤ 8 ⌝ }
+    ensures key { λ r. ⌜ r .key ≡ wrongKeys l (take n sets) ⌝ }
+    ensures handle { λ r. ⌜ r .handle ≡ withHandle handle (take n sets) ⌝ }
+{
+    let mut a = false;
+    let mut b = false;
     let mut i: usize = 0;
     while i < n {
         let k = sets[i];
-        r = either(r, k.handle == handle);
+        let key = k.fa_key;
+        a = either(a, wrong_length(l, key));
+        b = either(b, k.handle == handle);
         i += 1;
     }
-    r
+    Wrong { key: a, handle: b }
 }
 
 // The end of a record is not computed: it may not fit.
@@ -159,20 +183,6 @@ fn larger_of(a: usize, b: usize) -> usize
     if a < b { b } else { a }
 }
 
-// The modes are taken from the last to the first.
-fn largest_size(modes: [Mode; Card::MODES], n: usize) -> usize
-    requires { ⌜ n ≤ 16 ⌝ }
-    ensures { λ r. ⌜ r ≡ largestSize (take n modes) ⌝ }
-{
-    let mut size: usize = 0;
-    let mut i = n;
-    while 0 < i {
-        i -= 1;
-        size = larger_of(reply_size(modes[i]), size);
-    }
-    size
-}
-
 fn modes_fault(modes: [Mode; Card::MODES], n: usize, area: usize) -> u8
     ensures { λ r. ⌜ r ≡ modesRefusal modes n area ⌝ }
 {
@@ -196,26 +206,36 @@ fn modes_fault(modes: [Mode; Card::MODES], n: usize, area: usize) -> u8
 }
 
 fn fault(
+    l: usize,
     sets: [KeySet; Card::KEY_SETS],
     n: usize,
     modes: [Mode; Card::MODES],
     m: usize,
     area: usize,
+    key: Value,
     handle: u8,
 ) -> u8
-    ensures { λ r. ⌜ r ≡ refusal sets n modes m area handle ⌝ }
+    ensures { λ r. ⌜ r ≡ refusal l sets n modes m area key handle ⌝ }
 {
+    if !key_expansion::is_key_length(l) {
+        return 21;
+    }
     if n == 0 {
         return 1;
     }
     if Card::KEY_SETS < n {
         return 1;
     }
+    let wrong = wrong_sets(l, sets, n, handle);
+    let shill = wrong_length(l, key);
+    if either(wrong.key, shill) {
+        return 22;
+    }
     let ids = set_ids(sets);
     if repeats(&ids, n) {
         return 2;
     }
-    if has_handle(sets, n, handle) {
+    if wrong.handle {
         return 3;
     }
     modes_fault(modes, m, area)
@@ -228,7 +248,7 @@ fn empty_sets() -> [KeySetSlot; Card::KEY_SETS]
         held: false,
         id: KeySetId(0),
         handle: 0,
-        fa_key: [0u8; 16],
+        fa_key: [0u8; Value::MOST],
     };
     [none; Card::KEY_SETS]
 }
@@ -251,16 +271,30 @@ fn empty_area() -> [u8; Card::AREA]
     [0u8; Card::AREA]
 }
 
+// A key's bytes, with zeros behind them. The first 16, which every key has, are copied without a call.
+fn wide(key: Value) -> [u8; Value::MOST]
+    requires { ⌜ (16 ≤ key .length) × (key .length ≤ 32) ⌝ }
+    ensures { λ r. ⌜ r ≡ wide (bytesOf key) ⌝ }
+{
+    let bytes = key.bytes;
+    let n = key.length as usize;
+    let mut all = [0u8; Value::MOST];
+    octets::copy_at(&mut all, 0, &bytes[..16]);
+    octets::copy_at(&mut all, 16, &bytes[16..n]);
+    all
+}
+
 fn set_slot(k: KeySet) -> KeySetSlot
+    requires { ⌜ (16 ≤ k .«fa_key» .length) × (k .«fa_key» .length ≤ 32) ⌝ }
     ensures { λ r. ⌜ r ≡ setSlot k ⌝ }
 {
     let id = k.id;
-    let fa_key = k.fa_key;
+    let key = k.fa_key;
     KeySetSlot {
         held: true,
         id: id,
         handle: k.handle,
-        fa_key: fa_key,
+        fa_key: wide(key),
     }
 }
 
@@ -277,7 +311,7 @@ fn mode_slot(m: Mode) -> ModeSlot
 }
 
 fn set_slots(sets: [KeySet; Card::KEY_SETS], n: usize) -> [KeySetSlot; Card::KEY_SETS]
-    requires { ⌜ n ≤ 8 ⌝ }
+    requires { ⌜ (n ≤ 8) × ((i : ℕ) → i < n → (16 ≤ getD sets i pastSet .«fa_key» .length) × (getD sets i pastSet .«fa_key» .length ≤ 32)) ⌝ }
     ensures { λ r. ⌜ r ≡ filled 8 noSet (map setSlot (take n sets)) ⌝ }
 {
     let mut slots = empty_sets();
@@ -290,18 +324,31 @@ fn set_slots(sets: [KeySet; Card::KEY_SETS], n: usize) -> [KeySetSlot; Card::KEY
     slots
 }
 
-fn mode_slots(modes: [Mode; Card::MODES], n: usize) -> [ModeSlot; Card::MODES]
+// The first n modes in their slots, and the largest reply size that one of them needs.
+struct ModeSlots {
+    slots: [ModeSlot; Card::MODES],
+    size: usize,
+}
+
+fn mode_slots(modes: [Mode; Card::MODES], n: usize) -> ModeSlots
     requires { ⌜ n ≤ 16 ⌝ }
-    ensures { λ r. ⌜ r ≡ filled 16 noMode (map modeSlot (take n modes)) ⌝ }
+    ensures slots { λ r. ⌜ r .slots ≡ filled 16 noMode (map modeSlot (take n modes)) ⌝ }
+    ensures size { λ r. ⌜ r .size ≡ largestSize (take n modes) ⌝ }
 {
     let mut slots = empty_modes();
+    let mut size: usize = 0;
     let mut i: usize = 0;
     while i < n {
-        let s = mode_slot(modes[i]);
+        let m = modes[i];
+        let s = mode_slot(m);
         slots[i] = s;
+        size = larger_of(size, reply_size(m));
         i += 1;
     }
-    slots
+    ModeSlots {
+        slots: slots,
+        size: size,
+    }
 }
 
 fn copied(area: &[u8]) -> [u8; Card::AREA]
@@ -326,26 +373,29 @@ pub fn blank() -> Card
         modes: empty_modes(),
         area: empty_area(),
         div_data: [0u8; 16],
-        shill_key: [0u8; 16],
+        shill_key: [0u8; Value::MOST],
         shill_handle: 0,
+        key_length: 0,
         reply_size: 0,
         session: Session::none(),
     }
 }
 
+// A card with keys of l bytes, from the first n key sets and the first m modes.
 pub fn load(
+    l: usize,
     sets: [KeySet; Card::KEY_SETS],
-    set_count: usize,
+    n: usize,
     modes: [Mode; Card::MODES],
-    mode_count: usize,
+    m: usize,
     area: &[u8],
     div_data: [u8; 16],
-    shill_key: [u8; 16],
+    shill_key: Value,
     shill_handle: u8,
 ) -> Loaded
-    ensures { λ r. ⌜ r ≡ loaded sets «set_count» modes «mode_count» (now (area .entry)) «div_data» «shill_key» «shill_handle» ⌝ }
+    ensures { λ r. ⌜ r ≡ loaded l sets n modes m (now (area .entry)) «div_data» «shill_key» «shill_handle» ⌝ }
 {
-    let number = fault(sets, set_count, modes, mode_count, area.len(), shill_handle);
+    let number = fault(l, sets, n, modes, m, area.len(), shill_key, shill_handle);
     if number != 0 {
         let card = blank();
         return Loaded {
@@ -353,14 +403,17 @@ pub fn load(
             card: card,
         };
     }
+    let held = mode_slots(modes, m);
+    let slots = held.slots;
     let card = Card {
-        sets: set_slots(sets, set_count),
-        modes: mode_slots(modes, mode_count),
+        sets: set_slots(sets, n),
+        modes: slots,
         area: copied(area),
         div_data: div_data,
-        shill_key: shill_key,
+        shill_key: wide(shill_key),
         shill_handle: shill_handle,
-        reply_size: largest_size(modes, mode_count),
+        key_length: l,
+        reply_size: held.size,
         session: Session::none(),
     };
     Loaded {

@@ -50,6 +50,9 @@ pub length-part : {A : Type 0} (l : List A) (at n : ℕ) → at + n ≤ length l
 unfolding part
 length-part l at n h = length-take-le n (drop at l) (omega (arith, length-drop at l))
 
+pub part-long : {A : Type 0} (l : List A) (at n : ℕ) {r : List A} → at + n ≤ length l → r ≡ part l at n → length r ≡ n
+part-long l at n h e = ap length e ∙ length-part l at n h
+
 pub getD-part : {A : Type 0} (l : List A) (at n i : ℕ) (d : A) → i < n → getD (part l at n) i d ≡ getD l (at + i) d
 unfolding part
 getD-part l at n i d h = getD-take n (drop at l) i d h ∙ getD-drop at l i d

@@ -20,6 +20,15 @@ pub fn block_at(s: &[u8], at: usize) -> [u8; 16]
     b
 }
 
+// n bytes of a slice, from a place on.
+pub fn part_of(s: &[u8], at: usize, n: usize) -> &[u8]
+    requires { ⌜ at + n ≤ length (now s) ⌝ }
+    ensures { λ r. ⌜ now r ≡ part (now (s .entry)) at n ⌝ }
+{
+    let end = at + n;
+    &s[at..end]
+}
+
 // Bytes written over a slice from a place on.
 pub fn copy_at(d: &mut [u8], at: usize, s: &[u8])
     requires { ⌜ at + length (now s) ≤ length (now d) ⌝ }
@@ -39,13 +48,14 @@ pub fn both(a: bool, b: bool) -> bool
     if a { b } else { false }
 }
 
-// Whether two blocks are equal. Every byte is looked at.
-pub fn equal(a: [u8; 16], b: [u8; 16]) -> bool
-    ensures { λ r. ⌜ r ≡ same a b ⌝ }
+// Whether two slices of one length are equal. Every byte is looked at.
+pub fn equal(a: &[u8], b: &[u8]) -> bool
+    requires { ⌜ length (now a) ≡ length (now b) ⌝ }
+    ensures { λ r. ⌜ r ≡ same (now (a .entry)) (now (b .entry)) ⌝ }
 {
     let mut r = true;
     let mut i: usize = 0;
-    while i < 16 {
+    while i < a.len() {
         r = both(r, a[i] == b[i]);
         i += 1;
     }

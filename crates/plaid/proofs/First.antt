@@ -21,10 +21,10 @@ take-firsts : {A : Type 0} (l : List A) (d : A) (n : ℕ) → length l ≤ n →
 take-firsts l d n h = take-table (λ i. getD l i d) (length l) n 0 h ∙ sym (tabled (λ i. getD l i d) (length l) 0 l d (zero-add (length l)) (λ i p. refl))
 
 pub first-eight : (l : List KeySet) (d : KeySet) (g : Given) (area : List ℕ) →
-    loaded (getD l 0 d ∷ getD l 1 d ∷ getD l 2 d ∷ getD l 3 d ∷ getD l 4 d ∷ getD l 5 d ∷ getD l 6 d ∷ getD l 7 d ∷ []) (length l)
+    loaded (g .«key_length») (getD l 0 d ∷ getD l 1 d ∷ getD l 2 d ∷ getD l 3 d ∷ getD l 4 d ∷ getD l 5 d ∷ getD l 6 d ∷ getD l 7 d ∷ []) (length l)
     (g .modes) (g .«mode_count») area (g .«div_data») (g .«shill_key») (g .«shill_handle»)
     ≡ loadOf l g area
 unfolding loadOf
 first-eight l d g area =
-    counted-only (table (λ i. getD l i d) 8 0) l (length l) (g .modes) (g .«mode_count») area (g .«div_data») (g .«shill_key») (g .«shill_handle»)
+    counted-only (g .«key_length») (table (λ i. getD l i d) 8 0) l (length l) (g .modes) (g .«mode_count») area (g .«div_data») (g .«shill_key») (g .«shill_handle»)
     (λ h. take-firsts l d 8 h ∙ sym (take-length l))

@@ -2,9 +2,10 @@
 use mathlib.Core.Path.{_≡_, sym, ap, _∙_}
 use mathlib.Core.List.{List}
 use Prim.Native.Nat.{ℕ}
-use lib.ListN.{length, replicate, take, drop, take-append-drop}
+use lib.ListN.{length, take, drop, take-append-drop}
 use lib.Seq.{take-append-seam}
 use Rattle.octets.specs.Lists.{part}
+use Rattle.plaid_types.specs.Keys.{noValue}
 use Rattle.plaid_types.specs.declared.KeySet.{KeySet}
 use Rattle.load.specs.Load.{loaded}
 use Rattle.load.specs.declared.Loaded.{Loaded}
@@ -15,11 +16,11 @@ use Rattle.plaid.specs.declared.Part.{Part}
 
 -- what stands for a set where the list has none
 abbrev pub blankSet : KeySet
-blankSet = record { id = record { 0 = 0 }; handle = 0; «fa_key» = replicate 16 0 }
+blankSet = record { id = record { 0 = 0 }; handle = 0; «fa_key» = noValue }
 
 -- a load of a list of key sets, what is given beside it, and a record area
 unfoldable pub loadOf : List KeySet → Given → List ℕ → Loaded
-loadOf sets g area = loaded sets (length sets) (g .modes) (g .«mode_count») area (g .«div_data») (g .«shill_key») (g .«shill_handle»)
+loadOf sets g area = loaded (g .«key_length») sets (length sets) (g .modes) (g .«mode_count») area (g .«div_data») (g .«shill_key») (g .«shill_handle»)
 
 -- "these are returned as a part of the work buffer": the part by its start, counted from 0, and its length
 unfoldable pub recordAt : List ℕ → Accepted → Part

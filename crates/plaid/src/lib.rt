@@ -7,6 +7,7 @@ use plaid_types::Mode;
 use plaid_types::OpModeId;
 use plaid_types::Outcome;
 use plaid_types::Reader;
+use plaid_types::Value;
 use reader_accept::Accepted;
 use reader_list::Written;
 use reader_open::Opened;
@@ -26,10 +27,11 @@ ghost use Rattle.plaid.specs.Interface.{blankSet, loadOf, recordAt};
 // What a load is given beside the key sets and the record area. What stands past the count is not looked at.
 #[repr(C)]
 pub struct Given {
+    pub key_length: usize,
     pub modes: [Mode; Card::MODES],
     pub mode_count: usize,
     pub div_data: [u8; 16],
-    pub shill_key: [u8; 16],
+    pub shill_key: Value,
     pub shill_handle: u8,
 }
 
@@ -40,7 +42,10 @@ fn blank_set() -> KeySet
     KeySet {
         id: KeySetId(0),
         handle: 0,
-        fa_key: [0u8; 16],
+        fa_key: Value {
+            length: 0,
+            bytes: [0u8; Value::MOST],
+        },
     }
 }
 
@@ -68,13 +73,14 @@ fn load_eight(
     given: Given,
     area: &[u8],
 ) -> Loaded
-    ensures { λ r. ⌜ r ≡ loaded (k0 ∷ k1 ∷ k2 ∷ k3 ∷ k4 ∷ k5 ∷ k6 ∷ k7 ∷ []) «set_count» (given .modes) (given .«mode_count») (now (area .entry)) (given .«div_data») (given .«shill_key») (given .«shill_handle») ⌝ }
+    ensures { λ r. ⌜ r ≡ loaded (given .«key_length») (k0 ∷ k1 ∷ k2 ∷ k3 ∷ k4 ∷ k5 ∷ k6 ∷ k7 ∷ []) «set_count» (given .modes) (given .«mode_count») (now (area .entry)) (given .«div_data») (given .«shill_key») (given .«shill_handle») ⌝ }
 {
     let sets = [k0, k1, k2, k3, k4, k5, k6, k7];
     let modes = given.modes;
     let div_data = given.div_data;
     let shill_key = given.shill_key;
     load::load(
+        given.key_length,
         sets,
         set_count,
         modes,
@@ -128,52 +134,70 @@ pub extern "C" fn plaid_list(of: Ids, out: &mut [u8]) -> Written
 }
 
 #[no_mangle]
-pub extern "C" fn plaid_open(of: Ids, blocks: &[u8]) -> Opened
-    ensures { λ r. ⌜ r ≡ opened (of .ids) (of .count) (now (blocks .entry)) ⌝ }
+pub extern "C" fn plaid_open(key_length: usize, of: Ids, blocks: &[u8]) -> Opened
+    ensures { λ r. ⌜ r ≡ opened «key_length» (of .ids) (of .count) (now (blocks .entry)) ⌝ }
 {
     let ids = of.ids;
-    reader_open::open(ids, of.count, blocks)
+    reader_open::open(key_length, ids, of.count, blocks)
 }
 
 // What Seal is given beside the payload.
 #[repr(C)]
 pub struct Sealing {
-    pub fa_key: [u8; 16],
+    pub key_length: usize,
+    pub fa_key: Value,
     pub div_data: [u8; 16],
-    pub rnd1: [u8; 16],
-    pub rnd2: [u8; 16],
+    pub rnd1: Value,
+    pub rnd2: Value,
     pub mode: OpModeId,
 }
 
 #[no_mangle]
 pub extern "C" fn plaid_seal(of: Sealing, payload: &[u8], out: &mut [u8]) -> Sealed
-    ensures told { λ r. ⌜ r ≡ sealedOf (of .«fa_key») (of .«div_data») (of .rnd1) (of .rnd2) (of .mode) (now (payload .entry)) (length (now (out .entry))) ⌝ }
-    ensures bytes { λ _. ⌜ now (out .exit) ≡ sealOutput (of .«fa_key») (of .«div_data») (of .rnd1) (of .rnd2) (of .mode) (now (payload .entry)) (now (out .entry)) ⌝ }
+    ensures told { λ r. ⌜ r ≡ sealedOf (of .«key_length») (of .«fa_key») (of .«div_data») (of .rnd1) (of .rnd2) (of .mode) (now (payload .entry)) (length (now (out .entry))) ⌝ }
+    ensures bytes { λ _. ⌜ now (out .exit) ≡ sealOutput (of .«key_length») (of .«fa_key») (of .«div_data») (of .rnd1) (of .rnd2) (of .mode) (now (payload .entry)) (now (out .entry)) ⌝ }
 {
     let fa_key = of.fa_key;
     let div_data = of.div_data;
     let rnd1 = of.rnd1;
     let rnd2 = of.rnd2;
     let mode = of.mode;
-    reader_seal::seal(fa_key, div_data, rnd1, rnd2, mode, payload, out)
+    reader_seal::seal(
+        of.key_length,
+        fa_key,
+        div_data,
+        rnd1,
+        rnd2,
+        mode,
+        payload,
+        out,
+    )
 }
 
 // What Accept is given beside the response.
 #[repr(C)]
 pub struct Accepting {
-    pub keys_hash: [u8; 16],
+    pub key_length: usize,
+    pub keys_hash: Value,
     pub div_data: [u8; 16],
     pub record_length: usize,
 }
 
 #[no_mangle]
 pub extern "C" fn plaid_accept(of: Accepting, response: &[u8], work: &mut [u8]) -> Accepted
-    ensures told { λ r. ⌜ r ≡ acceptedOf (of .«keys_hash») (of .«div_data») (of .«record_length») (now (response .entry)) (length (now (work .entry))) ⌝ }
-    ensures bytes { λ _. ⌜ now (work .exit) ≡ workAfter (of .«keys_hash») (of .«div_data») (of .«record_length») (now (response .entry)) (now (work .entry)) ⌝ }
+    ensures told { λ r. ⌜ r ≡ acceptedOf (of .«key_length») (of .«keys_hash») (of .«div_data») (of .«record_length») (now (response .entry)) (length (now (work .entry))) ⌝ }
+    ensures bytes { λ _. ⌜ now (work .exit) ≡ workAfter (of .«key_length») (of .«keys_hash») (of .«div_data») (of .«record_length») (now (response .entry)) (now (work .entry)) ⌝ }
 {
     let keys_hash = of.keys_hash;
     let div_data = of.div_data;
-    reader_accept::accept_in(keys_hash, div_data, of.record_length, response, work)
+    reader_accept::accept_in(
+        of.key_length,
+        keys_hash,
+        div_data,
+        of.record_length,
+        response,
+        work,
+    )
 }
 
 // A part of a buffer: its start, counted from 0, and its length.

@@ -11,11 +11,11 @@ use Rattle.plaid_types.specs.declared.Card.{Card}
 
 -- "State: no session, or an open one with KeySetID and RND1. A new card has none."
 abbrev pub noSession : Session
-noSession = record { opened = false; id = record { 0 = 0 }; rnd1 = replicate 16 0 }
+noSession = record { opened = false; id = record { 0 = 0 }; rnd1 = replicate 32 0 }
 
 -- an empty slot
 abbrev pub noSet : KeySetSlot
-noSet = record { held = false; id = record { 0 = 0 }; handle = 0; «fa_key» = replicate 16 0 }
+noSet = record { held = false; id = record { 0 = 0 }; handle = 0; «fa_key» = replicate 32 0 }
 
 abbrev pub noMode : ModeSlot
 noMode = record { held = false; id = record { 0 = 0 }; start = 0; len = 0 }
@@ -30,6 +30,7 @@ withSession c s =
       «div_data» = c .«div_data»;
       «shill_key» = c .«shill_key»;
       «shill_handle» = c .«shill_handle»;
+      «key_length» = c .«key_length»;
       «reply_size» = c .«reply_size»;
       session = s;
     }

@@ -1,5 +1,8 @@
 //! What a card holds, takes and answers (document 01, "The card").
 ghost use mathlib.Core.Path.{_≡_};
+ghost use Prim.Native.Nat.{_+_, _≤_};
+ghost use lib.ListN.{length};
+ghost use Rattle.plaid_types.specs.Keys.{lawful, wide, valueOf, noValue, str1Length};
 ghost use Rattle.plaid_types.specs.Cards.{noSession, withSession};
 
 // The two kinds of identifier are types of their own: a key set number is never taken where a mode number belongs.
@@ -9,12 +12,71 @@ pub struct KeySetId(pub u16);
 #[repr(C)]
 pub struct OpModeId(pub u16);
 
+// A key, RND or KeysHash as a caller gives or gets it (T-04): so many bytes, from the first on. It can hold 32.
+#[repr(C)]
+pub struct Value {
+    pub length: u8,
+    pub bytes: [u8; Value::MOST],
+}
+
+impl Value {
+    pub const MOST: usize = 32;
+
+    pub fn of(k: &[u8]) -> Value
+        requires { ⌜ length (now k) ≤ 32 ⌝ }
+        ensures { λ r. ⌜ r ≡ valueOf (now (k .entry)) ⌝ }
+    {
+        let bytes = wide(k);
+        Value {
+            length: k.len() as u8,
+            bytes: bytes,
+        }
+    }
+
+    pub fn none() -> Value
+        ensures { λ r. ⌜ r ≡ noValue ⌝ }
+    {
+        Value {
+            length: 0,
+            bytes: [0u8; Value::MOST],
+        }
+    }
+}
+
+// Bytes as a card or a value holds them: zeros behind them.
+pub fn wide(k: &[u8]) -> [u8; Value::MOST]
+    requires { ⌜ length (now k) ≤ 32 ⌝ }
+    ensures { λ r. ⌜ r ≡ wide (now (k .entry)) ⌝ }
+{
+    let mut w = [0u8; Value::MOST];
+    octets::copy_at(&mut w, 0, k);
+    w
+}
+
+// L of a card. A load makes it one of the three.
+pub fn lawful(l: usize) -> usize
+    ensures { λ r. ⌜ r ≡ lawful l ⌝ }
+{
+    if key_expansion::is_key_length(l) {
+        return l;
+    }
+    16
+}
+
+// How many bytes STR1 has: KeySetID, DivData, RND1, RND1.
+pub fn str1_length(l: usize) -> usize
+    requires { ⌜ l ≤ 32 ⌝ }
+    ensures { λ r. ⌜ r ≡ str1Length l ⌝ }
+{
+    2 + 16 + 2 * l
+}
+
 // A key set as a load gives it.
 #[repr(C)]
 pub struct KeySet {
     pub id: KeySetId,
     pub handle: u8,
-    pub fa_key: [u8; 16],
+    pub fa_key: Value,
 }
 
 // A mode as a load gives it: its record is a part of the record area.
@@ -25,13 +87,13 @@ pub struct Mode {
     pub len: usize,
 }
 
-// A slot of the card, empty or not.
+// A slot of the card, empty or not. A card holds its keys in the first L of 32 bytes.
 #[repr(C)]
 pub struct KeySetSlot {
     pub held: bool,
     pub id: KeySetId,
     pub handle: u8,
-    pub fa_key: [u8; 16],
+    pub fa_key: [u8; Value::MOST],
 }
 
 #[repr(C)]
@@ -47,7 +109,7 @@ pub struct ModeSlot {
 pub struct Session {
     pub opened: bool,
     pub id: KeySetId,
-    pub rnd1: [u8; 16],
+    pub rnd1: [u8; Value::MOST],
 }
 
 impl Session {
@@ -58,7 +120,7 @@ impl Session {
         Session {
             opened: false,
             id: KeySetId(0),
-            rnd1: [0u8; 16],
+            rnd1: [0u8; Value::MOST],
         }
     }
 
@@ -67,7 +129,7 @@ impl Session {
         ensures { λ r. ⌜ r ≡ noSession ⌝ }
     {
         let id = KeySetId(0);
-        let rnd1 = [0u8; 16];
+        let rnd1 = [0u8; Value::MOST];
         self.opened = false;
         self.id = id;
         self.rnd1 = rnd1;
@@ -81,8 +143,9 @@ pub struct Card {
     pub modes: [ModeSlot; Card::MODES],
     pub area: [u8; Card::AREA],
     pub div_data: [u8; 16],
-    pub shill_key: [u8; 16],
+    pub shill_key: [u8; Value::MOST],
     pub shill_handle: u8,
+    pub key_length: usize,
     pub reply_size: usize,
     pub session: Session,
 }
@@ -141,15 +204,11 @@ pub struct Outcome {
     pub card: Card,
 }
 
-// The fresh bytes of a command call: F is the first 50, the other 203 are the pad bytes.
+// The fresh bytes of a command call: F is as many as STR1 has, the others are the pad bytes.
 pub struct Fresh;
 
 impl Fresh {
     pub const ALL: usize = 253;
-
-    pub const FIRST: usize = 50;
-
-    pub const PADS: usize = 203;
 }
 
 // What a reader lists and seals, at most.
@@ -158,5 +217,6 @@ pub struct Reader;
 impl Reader {
     pub const IDS: usize = 16;
 
-    pub const PAYLOAD: usize = 205;
+    // The longest text that 240 bytes hold with its padding.
+    pub const TEXT: usize = 239;
 }

@@ -1,10 +1,12 @@
 //! The reader's Accept: a card's answer to a final command.
 use plaid_types::Answer;
+use plaid_types::Value;
 ghost use mathlib.Core.Path.{_≡_};
 ghost use mathlib.Core.Bool.{true, cond};
 ghost use Prim.Native.Nat.{_-_, _≤_};
 ghost use lib.ListN.{length, replicate};
 ghost use Rattle.octets.specs.Lists.{over};
+ghost use Rattle.key_expansion.specs.KeyLength.{keyLength};
 ghost use Rattle.reader_accept.specs.Accept.{
   decipheredText,
   rightBody,
@@ -12,6 +14,7 @@ ghost use Rattle.reader_accept.specs.Accept.{
   bodyLength,
   hasRecord,
   knownLength,
+  acceptNumber,
   acceptedOf,
   workAfter,
   recordPart,
@@ -42,15 +45,35 @@ fn known_length(n: usize) -> bool
     n == Answer::FINAL_MOST
 }
 
-// The response deciphered, in the first bytes of the work buffer.
-fn decipher_into(hash: [u8; 16], response: &[u8], work: &mut [u8])
-    requires { ⌜ (knownLength (length (now response)) ≡ true) × (length (now response) ≤ length (now work)) ⌝ }
-    ensures { λ _. ⌜ now (work .exit) ≡ over (now (work .entry)) 0 (decipheredText hash (now (response .entry))) ⌝ }
+// The first fault that shows before a byte is deciphered, of a response of n bytes and a work buffer of so many; or 0.
+fn fault(l: usize, keys_hash: Value, n: usize, room: usize) -> u8
+    ensures { λ r. ⌜ r ≡ acceptNumber l «keys_hash» n room true ⌝ }
 {
-    let w = key_expansion::expand(&hash);
+    if !key_expansion::is_key_length(l) {
+        return 21;
+    }
+    if keys_hash.length as usize != l {
+        return 22;
+    }
+    if !known_length(n) {
+        return 18;
+    }
+    if room < n {
+        return 19;
+    }
+    0
+}
+
+// The response deciphered, in the first bytes of the work buffer.
+fn decipher_into(hash: &[u8], response: &[u8], work: &mut [u8])
+    requires { ⌜ (keyLength (length (now hash)) ≡ true) × (knownLength (length (now response)) ≡ true) × (length (now response) ≤ length (now work)) ⌝ }
+    ensures { λ _. ⌜ now (work .exit) ≡ over (now (work .entry)) 0 (decipheredText (now (hash .entry)) (now (response .entry))) ⌝ }
+{
+    let table = sbox::byte_table();
+    let rows = key_expansion::expand(&table, hash);
     octets::copy_at(work, 0, response);
     let n = response.len();
-    cbc::decipher_under(&hash, &w, [0u8; 16], &mut work[..n], 0);
+    cbc::decipher_under(hash, &rows, [0u8; 16], &mut work[..n], 0);
 }
 
 // The body's length in a text of t bytes that ends with DivData; 0: not authenticated.
@@ -64,7 +87,7 @@ fn body_length(s: &[u8], t: usize, div: [u8; 16]) -> usize
     if 80 < t {
         return 0;
     }
-    if octets::equal(octets::block_at(s, t - 16), div) {
+    if octets::equal(octets::part_of(s, t - 16, 16), &div) {
         return t - 16;
     }
     0
@@ -100,29 +123,27 @@ fn clear(work: &mut [u8], n: usize)
 }
 
 pub fn accept_in(
-    keys_hash: [u8; 16],
+    l: usize,
+    keys_hash: Value,
     div_data: [u8; 16],
     record_length: usize,
     response: &[u8],
     work: &mut [u8],
 ) -> Accepted
-    ensures { λ r. ⌜ r ≡ acceptedOf «keys_hash» «div_data» «record_length» (now (response .entry)) (length (now (work .entry))) ⌝ }
-    ensures { λ _. ⌜ now (work .exit) ≡ workAfter «keys_hash» «div_data» «record_length» (now (response .entry)) (now (work .entry)) ⌝ }
+    ensures told { λ r. ⌜ r ≡ acceptedOf l «keys_hash» «div_data» «record_length» (now (response .entry)) (length (now (work .entry))) ⌝ }
+    ensures bytes { λ _. ⌜ now (work .exit) ≡ workAfter l «keys_hash» «div_data» «record_length» (now (response .entry)) (now (work .entry)) ⌝ }
 {
     let n = response.len();
-    if !known_length(n) {
+    let number = fault(l, keys_hash, n, work.len());
+    if number != 0 {
         return Accepted {
-            number: 18,
+            number: number,
             length: 0,
         };
     }
-    if work.len() < n {
-        return Accepted {
-            number: 19,
-            length: 0,
-        };
-    }
-    decipher_into(keys_hash, response, work);
+    let bytes = keys_hash.bytes;
+    let hash = &bytes[..l];
+    decipher_into(hash, response, work);
     let body = judged(&work[..n], div_data);
     if !has_record(record_length, body) {
         clear(work, n);

@@ -3,11 +3,14 @@ use plaid_types::Answer;
 use plaid_types::Fresh;
 use plaid_types::KeySetId;
 use plaid_types::Reader;
+use plaid_types::Value;
 ghost use mathlib.Core.Path.{_≡_};
 ghost use Prim.Native.Nat.{_+_, _*_, _≤_};
 ghost use lib.ListN.{length};
-ghost use Rattle.octets.specs.Lists.{part};
-ghost use Rattle.reader_open.specs.Open.{formed, idOf, agrees, opensAs, winner, numberAlone, openedAt, opened};
+ghost use mathlib.Core.Bool.{true};
+ghost use Rattle.key_expansion.specs.KeyLength.{keyLength};
+ghost use Rattle.plaid_types.specs.Keys.{str1Length};
+ghost use Rattle.reader_open.specs.Open.{formed, textOf, idOf, agrees, opensAs, winner, numberAlone, openedAt, opened};
 
 // What Open hands back: the number; and the winning entry's place and KeySetID, with DivData and RND1 of its block.
 #[repr(C)]
@@ -16,7 +19,7 @@ pub struct Opened {
     pub place: usize,
     pub id: KeySetId,
     pub div_data: [u8; 16],
-    pub rnd1: [u8; 16],
+    pub rnd1: Value,
 }
 
 fn declined(number: u8) -> Opened
@@ -27,25 +30,27 @@ fn declined(number: u8) -> Opened
         place: 0,
         id: KeySetId(0),
         div_data: [0u8; 16],
-        rnd1: [0u8; 16],
+        rnd1: Value::none(),
     }
 }
 
-fn part_of(s: &[u8], at: usize, n: usize) -> &[u8]
-    requires { ⌜ at + n ≤ length (now s) ⌝ }
-    ensures { λ r. ⌜ now r ≡ part (now (s .entry)) at n ⌝ }
+// STR1 of a block: its last bytes.
+fn text_of(l: usize, b: &[u8]) -> &[u8]
+    requires { ⌜ (l ≤ 32) × (length (now b) ≡ 256) ⌝ }
+    ensures { λ r. ⌜ now r ≡ textOf l (now (b .entry)) ⌝ }
 {
-    let end = at + n;
-    &s[at..end]
+    let n = plaid_types::str1_length(l);
+    octets::part_of(b, Answer::INITIAL - n, n)
 }
 
-// Whether a block is 00 02, 203 nonzero bytes, 00, and fifty bytes.
-fn formed(b: &[u8]) -> bool
-    requires { ⌜ length (now b) ≡ 256 ⌝ }
-    ensures { λ r. ⌜ r ≡ formed (now (b .entry)) ⌝ }
+// Whether a block is 00 02, nonzero bytes, 00, and STR1.
+fn formed(l: usize, b: &[u8]) -> bool
+    requires { ⌜ (l ≤ 32) × (length (now b) ≡ 256) ⌝ }
+    ensures { λ r. ⌜ r ≡ formed l (now (b .entry)) ⌝ }
 {
-    let pads = frame::no_zero(part_of(b, 2, Fresh::PADS), 0);
-    let end = octets::both(pads, b[205] == 0);
+    let n = Fresh::ALL - plaid_types::str1_length(l);
+    let pads = frame::no_zero(octets::part_of(b, 2, n), 0);
+    let end = octets::both(pads, b[2 + n] == 0);
     octets::both(b[0] == 0, octets::both(b[1] == 2, end))
 }
 
@@ -56,59 +61,80 @@ fn id_of(t: &[u8]) -> KeySetId
     KeySetId(octets::word(t[0], t[1]))
 }
 
-// Whether the fifty bytes have this KeySetID, and RND1 twice.
-fn agrees(t: &[u8], id: KeySetId) -> bool
-    requires { ⌜ length (now t) ≡ 50 ⌝ }
-    ensures { λ r. ⌜ r ≡ agrees id (now (t .entry)) ⌝ }
+// Whether STR1 has this KeySetID, and RND1 twice.
+fn agrees(l: usize, t: &[u8], id: KeySetId) -> bool
+    requires { ⌜ (l ≤ 32) × (length (now t) ≡ str1Length l) ⌝ }
+    ensures { λ r. ⌜ r ≡ agrees l id (now (t .entry)) ⌝ }
 {
-    let twice = octets::equal(octets::block_at(t, 18), octets::block_at(t, 34));
+    let twice = octets::equal(octets::part_of(t, 18, l), octets::part_of(t, 18 + l, l));
     let k = id_of(t);
     octets::both(k.0 == id.0, twice)
 }
 
-fn opens(b: &[u8], id: KeySetId) -> bool
-    requires { ⌜ length (now b) ≡ 256 ⌝ }
-    ensures { λ r. ⌜ r ≡ opensAs id (now (b .entry)) ⌝ }
+fn opens(l: usize, b: &[u8], id: KeySetId) -> bool
+    requires { ⌜ (l ≤ 32) × (length (now b) ≡ 256) ⌝ }
+    ensures { λ r. ⌜ r ≡ opensAs l id (now (b .entry)) ⌝ }
 {
-    let rest = agrees(part_of(b, 206, 50), id);
-    octets::both(formed(b), rest)
+    let rest = agrees(l, text_of(l, b), id);
+    octets::both(formed(l, b), rest)
 }
 
 // The first that opens, of n; n where none does. Every block is examined, and each is as long as an initial answer.
-fn first(ids: [KeySetId; Reader::IDS], n: usize, blocks: &[u8]) -> usize
-    requires { ⌜ (n ≤ 16) × (length (now blocks) ≡ 256 * n) ⌝ }
-    ensures { λ r. ⌜ r ≡ winner ids n (now (blocks .entry)) ⌝ }
+fn first(l: usize, ids: [KeySetId; Reader::IDS], n: usize, blocks: &[u8]) -> usize
+    requires { ⌜ (l ≤ 32) × (n ≤ 16) × (length (now blocks) ≡ 256 * n) ⌝ }
+    ensures { λ r. ⌜ r ≡ winner l ids n (now (blocks .entry)) ⌝ }
 {
     let mut at = n;
     let mut i: usize = 0;
     while i < n {
         let k = ids[i];
-        let hit = opens(part_of(blocks, Answer::INITIAL * i, Answer::INITIAL), k);
+        let hit = opens(
+            l,
+            octets::part_of(blocks, Answer::INITIAL * i, Answer::INITIAL),
+            k,
+        );
         at = steps::keep(n, at, i, hit);
         i += 1;
     }
     at
 }
 
-// What the entry at a place has to hand back.
-fn handed(id: KeySetId, blocks: &[u8], at: usize) -> Opened
-    requires { ⌜ 256 * at + 256 ≤ length (now blocks) ⌝ }
-    ensures { λ r. ⌜ r ≡ openedAt id (now (blocks .entry)) at ⌝ }
+// The same with the length written out, so that the compiler knows how many bytes it goes through.
+fn first_of_length(l: usize, ids: [KeySetId; Reader::IDS], n: usize, blocks: &[u8]) -> usize
+    requires { ⌜ (keyLength l ≡ true) × (n ≤ 16) × (length (now blocks) ≡ 256 * n) ⌝ }
+    ensures { λ r. ⌜ r ≡ winner l ids n (now (blocks .entry)) ⌝ }
 {
-    let b = part_of(blocks, Answer::INITIAL * at, Answer::INITIAL);
-    let t = part_of(b, 206, 50);
+    if l == 16 {
+        return first(16, ids, n, blocks);
+    }
+    if l == 24 {
+        return first(24, ids, n, blocks);
+    }
+    first(32, ids, n, blocks)
+}
+
+// What the entry at a place has to hand back.
+fn handed(l: usize, id: KeySetId, blocks: &[u8], at: usize) -> Opened
+    requires { ⌜ (l ≤ 32) × (256 * at + 256 ≤ length (now blocks)) ⌝ }
+    ensures { λ r. ⌜ r ≡ openedAt l id (now (blocks .entry)) at ⌝ }
+{
+    let b = octets::part_of(blocks, Answer::INITIAL * at, Answer::INITIAL);
+    let t = text_of(l, b);
     Opened {
         number: 0,
         place: at,
         id: id,
         div_data: octets::block_at(t, 2),
-        rnd1: octets::block_at(t, 18),
+        rnd1: Value::of(octets::part_of(t, 18, l)),
     }
 }
 
-pub fn open(ids: [KeySetId; Reader::IDS], count: usize, blocks: &[u8]) -> Opened
-    ensures { λ r. ⌜ r ≡ opened ids count (now (blocks .entry)) ⌝ }
+pub fn open(l: usize, ids: [KeySetId; Reader::IDS], count: usize, blocks: &[u8]) -> Opened
+    ensures { λ r. ⌜ r ≡ opened l ids count (now (blocks .entry)) ⌝ }
 {
+    if !key_expansion::is_key_length(l) {
+        return declined(21);
+    }
     if count == 0 {
         return declined(14);
     }
@@ -118,9 +144,9 @@ pub fn open(ids: [KeySetId; Reader::IDS], count: usize, blocks: &[u8]) -> Opened
     if blocks.len() != Answer::INITIAL * count {
         return declined(14);
     }
-    let at = first(ids, count, blocks);
+    let at = first_of_length(l, ids, count, blocks);
     if at == count {
         return declined(15);
     }
-    handed(ids[at], blocks, at)
+    handed(l, ids[at], blocks, at)
 }

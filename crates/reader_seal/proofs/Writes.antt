@@ -10,9 +10,7 @@ use borrow.Author.Tests.{le-leb}
 use borrow.Rule.Slice.PartMut.{putMid}
 use Rattle.octets.specs.Lists.{over, length-over}
 use Rattle.octets.specs.Writes.{take-over, over-behind}
-use Rattle.key_expansion.specs.Schedule.{fifteen}
-use Rattle.aes.specs.Aes.{aesUnder, cipherBy}
-use Rattle.aes.specs.Rows.{lent-aes}
+use Rattle.aes.specs.Aes.{aesUnder}
 use Rattle.padding.specs.Method2.{blocksFor, padded, padBuffer}
 use Rattle.padding.specs.Laws.{length-padded}
 use Rattle.cbc.specs.Cbc.{encryptedWhole, zeros}
@@ -33,19 +31,18 @@ put-over d s at n l =
     ap (λ (x : List ℕ). take at d ++ (s ++ x)) (drop-drop n at d ∙ ap (λ (k : ℕ). drop (at + k) d) (sym l))
     ∙ sym (append-assoc (take at d) s (drop (at + length s) d))
 
-pub both-written : (d a b : List ℕ) {e e′ : List ℕ} → length d ≡ 32 → length a ≡ 16 → length b ≡ 16 → e ≡ over d 0 a → e′ ≡ over e 16 b → e′ ≡ a ++ b
-both-written d a b ld la lb q r = over-behind d a b la q r ∙ over-all d (a ++ b) (omega (arith, length-append a b))
+pub both-written : (d a b : List ℕ) {e e′ : List ℕ} → e ≡ over d 0 a → e′ ≡ over e (length a) b → take (length a + length b) e′ ≡ a ++ b
+both-written d a b q r = ap (take (length a + length b)) (over-behind d a b refl q r) ∙ take-over d (a ++ b) (length a + length b) (length-append a b)
 
 pub str2-writes :
     (mode : OpModeId) (rnd2 payload hash d : List ℕ) {e₁ e₂ e₃ e₄ : List ℕ}
-    → length rnd2 ≡ 16
     → e₁ ≡ over d 0 (mode .0 / 256 ∷ mode .0 % 256 ∷ [])
     → e₂ ≡ over e₁ 2 rnd2
-    → e₃ ≡ over e₂ 18 payload
-    → e₄ ≡ over e₃ (18 + length payload) hash
+    → e₃ ≡ over e₂ (2 + length rnd2) payload
+    → e₄ ≡ over e₃ (2 + length rnd2 + length payload) hash
     → e₄ ≡ over d 0 (str2 mode rnd2 payload hash)
 unfolding str2
-str2-writes mode rnd2 payload hash d lr q₁ q₂ q₃ q₄ =
+str2-writes mode rnd2 payload hash d q₁ q₂ q₃ q₄ =
     let number : List ℕ = mode .0 / 256 ∷ mode .0 % 256 ∷ [] in
     let w₂ = over-behind d number rnd2 refl q₁ q₂ in
     let w₃ = over-behind d (number ++ rnd2) payload (omega arith) w₂ q₃ in
@@ -61,29 +58,24 @@ padded-over b s t ls lb =
     rw (le-leb (16 * blocksFor t) (length d) (omega arith), take-over b s t ls)
     (over-all d (padded s) (omega (arith, length-padded s, ap blocksFor ls)))
 
--- one block under a key of sixteen bytes, by the first eleven rows of its expansion
-pub by-eleven : (key s : List ℕ) {w : List (List ℕ)} → length key ≡ 16 → w ≡ fifteen (length key / 4) key → cipherBy (take 11 w) s ≡ aesUnder key s
-by-eleven key s {w} l e =
-    let n : 11 ≡ length key / 4 + 7 = omega arith in
-    ap (λ (k : ℕ). cipherBy (take k w) s) n ∙ ap (λ (f : List ℕ → List ℕ). f s) (lent-aes key e)
-
 pub data-writes :
-    (key : List ℕ) (mode : OpModeId) (rnd2 payload hash b : List ℕ) {e₁ e₂ e₃ : List ℕ}
-    → length rnd2 ≡ 16
-    → length hash ≡ 16
-    → length b ≡ lcOf (length payload)
+    (l : ℕ) (key : List ℕ) (mode : OpModeId) (rnd2 payload hash b : List ℕ) {e₁ e₂ e₃ : List ℕ}
+    → length rnd2 ≡ l
+    → length hash ≡ l
+    → length b ≡ lcOf l (length payload)
     → e₁ ≡ over b 0 (str2 mode rnd2 payload hash)
-    → e₂ ≡ padBuffer e₁ (34 + length payload)
+    → e₂ ≡ padBuffer e₁ (2 + 2 * l + length payload)
     → e₃ ≡ encryptedWhole (aesUnder key) zeros e₂
-    → e₃ ≡ sealedData key mode rnd2 payload hash
+    → e₃ ≡ sealedData l key mode rnd2 payload hash
 unfolding sealedData
-data-writes key mode rnd2 payload hash b lr lh lb q₁ q₂ q₃ =
+data-writes l key mode rnd2 payload hash b lr lh lb q₁ q₂ q₃ =
     let s : List ℕ = str2 mode rnd2 payload hash in
-    let ls : length s ≡ 34 + length payload = length-str2 mode rnd2 payload hash lr lh in
+    let t : ℕ = 2 + 2 * l + length payload in
+    let ls : length s ≡ t = length-str2 l mode rnd2 payload hash lr lh in
     q₃
     ∙ ap (encryptedWhole (aesUnder key) zeros)
-    (q₂ ∙ ap (λ (x : List ℕ). padBuffer x (34 + length payload)) q₁ ∙ padded-over b s (34 + length payload) ls lb)
-    ∙ encrypted-all (aesUnder key) (sealedBlocks (length payload)) zeros (padded s) (length-padded s ∙ ap (λ (n : ℕ). 16 * blocksFor n) ls)
+    (q₂ ∙ ap (λ (x : List ℕ). padBuffer x t) q₁ ∙ padded-over b s t ls lb)
+    ∙ encrypted-all (aesUnder key) (sealedBlocks l (length payload)) zeros (padded s) (length-padded s ∙ ap (λ (n : ℕ). 16 * blocksFor n) ls)
 
 pub command-writes :
     (lc : ℕ) (d out : List ℕ) {e₁ e₂ e₃ : List ℕ}

@@ -1,5 +1,6 @@
 -- Who has the diversified key deciphers the data of Seal's command to the padded STR2, and unpads it to STR2. Assumes nothing.
 use mathlib.Core.Path.{_≡_, ap, _∙_}
+use mathlib.Core.Bool.{true}
 use mathlib.Core.List.{List, [], _∷_, _++_}
 use Prim.Native.Nat.{ℕ, zero, suc, _+_, _*_, _/_, _%_, _^_, _<_}
 use native.Mathlib.Nat.{mod-lt}
@@ -9,8 +10,8 @@ use lib.Seq.{take-at}
 use Rattle.octets.specs.Bytes.{Bytes, Block}
 use Rattle.octets.specs.Lists.{part}
 use Rattle.octets.specs.ByteLists.{cons-bytes, append-bytes, zeros-bytes, take-bytes}
+use Rattle.key_expansion.specs.KeyLength.{keyLength}
 use Rattle.aes.specs.Aes.{invAesUnder}
-use Rattle.aes.specs.RoundTrip.{aes-block}
 use Rattle.sha_words.specs.Words.{wordBytes}
 use Rattle.sha_block.specs.Hash.{sha256, digestBytes, stateAfter}
 use Rattle.sha_padding.specs.Parsing.{blocks}
@@ -20,7 +21,9 @@ use Rattle.padding.specs.declared.Unpadded.the-variants.{Text}
 use Rattle.cbc.specs.Cbc.{decrypted, zeros}
 use Rattle.cbc.specs.Aes.{decrypted-encrypted-aes}
 use Rattle.plaid_types.specs.declared.OpModeId.{OpModeId}
-use Rattle.reader_seal.specs.Seal.{keysHashOf, diversifiedBy, str2, sealedBlocks, lcOf, sealedData, finalCommand, sealCommand}
+use Rattle.diversification.specs.Diversification.{diversifiedBy}
+use Rattle.diversification.specs.Laws.{diversified-bytes}
+use Rattle.reader_seal.specs.Seal.{keysHashOf, str2, sealedBlocks, lcOf, sealedData, finalCommand, sealCommand}
 use Rattle.reader_seal.specs.Laws.{length-keysHash, length-str2, length-sealedData}
 
 word-bytes : (x : ℕ) → Bytes (wordBytes x)
@@ -44,9 +47,9 @@ sha256-bytes : (m : List ℕ) → Bytes (sha256 m)
 unfolding words sha256 digestBytes
 sha256-bytes m = words-bytes (stateAfter m (blocks m)) 8
 
-pub keysHash-bytes : (rnd1 rnd2 : List ℕ) → Bytes (keysHashOf rnd1 rnd2)
+pub keysHash-bytes : (l : ℕ) (rnd1 rnd2 : List ℕ) → Bytes (keysHashOf l rnd1 rnd2)
 unfolding keysHashOf part
-keysHash-bytes rnd1 rnd2 = take-bytes 16 (sha256 (rnd1 ++ rnd2)) (sha256-bytes (rnd1 ++ rnd2))
+keysHash-bytes l rnd1 rnd2 = take-bytes l (sha256 (rnd1 ++ rnd2)) (sha256-bytes (rnd1 ++ rnd2))
 
 pub str2-bytes : (mode : OpModeId) (rnd2 payload hash : List ℕ) → mode .0 < 65536 → Bytes rnd2 → Bytes payload → Bytes hash → Bytes (str2 mode rnd2 payload hash)
 unfolding str2
@@ -55,41 +58,38 @@ str2-bytes mode rnd2 payload hash hm hr hp hh =
     (cons-bytes (mode .0 % 256) (rnd2 ++ (payload ++ hash)) (omega arith) (append-bytes rnd2 (payload ++ hash) hr (append-bytes payload hash hp hh)))
 
 -- what is deciphered under the diversified key: Lc bytes of the command, behind its first five
-abbrev pub decipheredData : List ℕ → List ℕ → List ℕ → List ℕ → OpModeId → List ℕ → List ℕ
-decipheredData fa div rnd1 rnd2 mode payload =
-    decrypted (invAesUnder (diversifiedBy fa div)) zeros (sealedBlocks (length payload)) (part (sealCommand fa div rnd1 rnd2 mode payload) 5 (lcOf (length payload)))
+abbrev pub decipheredData : ℕ → List ℕ → List ℕ → List ℕ → List ℕ → OpModeId → List ℕ → List ℕ
+decipheredData l fa div rnd1 rnd2 mode payload =
+    decrypted (invAesUnder (diversifiedBy fa div)) zeros (sealedBlocks l (length payload)) (part (sealCommand l fa div rnd1 rnd2 mode payload) 5 (lcOf l (length payload)))
 
-module _ (fa div rnd1 rnd2 : List ℕ) (mode : OpModeId) (payload : List ℕ) (hf : Bytes fa) (hd : Block div) (hr : Block rnd2) (hm : mode .0 < 65536) (hp : Bytes payload) where
+module _ (l : ℕ) (fa div rnd1 rnd2 : List ℕ) (mode : OpModeId) (payload : List ℕ) (hl : keyLength l ≡ true) (hf : Bytes fa) (hd : Block div) (lr : length rnd2 ≡ l) (hr : Bytes rnd2)
+    (hm : mode .0 < 65536) (hp : Bytes payload) where
   text : List ℕ
-  text = str2 mode rnd2 payload (keysHashOf rnd1 rnd2)
+  text = str2 mode rnd2 payload (keysHashOf l rnd1 rnd2)
 
-  length-text : length text ≡ 34 + length payload
+  length-text : length text ≡ 2 + 2 * l + length payload
   unfolding text
-  length-text = length-str2 mode rnd2 payload (keysHashOf rnd1 rnd2) (hr .long) (length-keysHash rnd1 rnd2)
+  length-text = length-str2 l mode rnd2 payload (keysHashOf l rnd1 rnd2) lr (length-keysHash l rnd1 rnd2 hl)
 
   text-bytes : Bytes text
   unfolding text
-  text-bytes = str2-bytes mode rnd2 payload (keysHashOf rnd1 rnd2) hm (hr .byte) hp (keysHash-bytes rnd1 rnd2)
+  text-bytes = str2-bytes mode rnd2 payload (keysHashOf l rnd1 rnd2) hm hr hp (keysHash-bytes l rnd1 rnd2)
 
-  key-bytes : Bytes (diversifiedBy fa div)
-  unfolding diversifiedBy
-  key-bytes = aes-block (length fa / 4) fa hf div hd .byte
-
-  pub deciphered-str2 : decipheredData fa div rnd1 rnd2 mode payload ≡ padded (str2 mode rnd2 payload (keysHashOf rnd1 rnd2))
+  pub deciphered-str2 : decipheredData l fa div rnd1 rnd2 mode payload ≡ padded (str2 mode rnd2 payload (keysHashOf l rnd1 rnd2))
   unfolding sealCommand finalCommand sealedData part text
   deciphered-str2 =
       let key : List ℕ = diversifiedBy fa div in
-      let n : ℕ = sealedBlocks (length payload) in
-      let d : List ℕ = sealedData key mode rnd2 payload (keysHashOf rnd1 rnd2) in
-      ap (decrypted (invAesUnder key) zeros n) (take-at d (0 ∷ []) (lcOf (length payload)) (length-sealedData key mode rnd2 payload (keysHashOf rnd1 rnd2)))
-      ∙ decrypted-encrypted-aes (length key / 4) key key-bytes zeros (padded text) (zeros-bytes 16) (padded-bytes text text-bytes) n
+      let n : ℕ = sealedBlocks l (length payload) in
+      let d : List ℕ = sealedData l key mode rnd2 payload (keysHashOf l rnd1 rnd2) in
+      ap (decrypted (invAesUnder key) zeros n) (take-at d (0 ∷ []) (lcOf l (length payload)) (length-sealedData l key mode rnd2 payload (keysHashOf l rnd1 rnd2)))
+      ∙ decrypted-encrypted-aes (length key / 4) key (diversified-bytes fa div hf hd) zeros (padded text) (zeros-bytes 16) (padded-bytes text text-bytes) n
       (length-padded text ∙ ap (λ (k : ℕ). 16 * blocksFor k) length-text)
 
-  -- unpadded, it is a text of 34 bytes and the payload's, and that text is STR2
-  pub unpadded-str2 : unpadded (decipheredData fa div rnd1 rnd2 mode payload) ≡ Text (34 + length payload)
+  -- unpadded, it is a text of 2 + 2L bytes and the payload's, and that text is STR2
+  pub unpadded-str2 : unpadded (decipheredData l fa div rnd1 rnd2 mode payload) ≡ Text (2 + 2 * l + length payload)
   unfolding text
   unpadded-str2 = ap unpadded deciphered-str2 ∙ unpadded-padded text ∙ ap Text length-text
 
-  pub read-str2 : take (34 + length payload) (decipheredData fa div rnd1 rnd2 mode payload) ≡ str2 mode rnd2 payload (keysHashOf rnd1 rnd2)
+  pub read-str2 : take (2 + 2 * l + length payload) (decipheredData l fa div rnd1 rnd2 mode payload) ≡ str2 mode rnd2 payload (keysHashOf l rnd1 rnd2)
   unfolding text padded
-  read-str2 = ap (take (34 + length payload)) deciphered-str2 ∙ take-at text (0x80 ∷ replicate (zeroBytes (length text)) 0) (34 + length payload) length-text
+  read-str2 = ap (take (2 + 2 * l + length payload)) deciphered-str2 ∙ take-at text (0x80 ∷ replicate (zeroBytes (length text)) 0) (2 + 2 * l + length payload) length-text

@@ -9,6 +9,7 @@ use borrow.Author.Tests.{eqb-true}
 use Rattle.octets.specs.Same.{split-and}
 use Rattle.frame.specs.Frame.{frameOf, dataOf}
 use Rattle.frame.specs.Laws.{passed}
+use Rattle.plaid_types.specs.Keys.{keyLengthOf, held}
 use Rattle.plaid_types.specs.Cards.{noSession, noSet}
 use Rattle.plaid_types.specs.declared.Session.{Session}
 use Rattle.plaid_types.specs.declared.Card.{Card}
@@ -27,9 +28,9 @@ pub record HeldIn (c : Card) (s : Session) : Type 0 where
   pub slot : ℕ
   pub holds : Holds (c .sets) slot (s .id)
 
--- a session that a card can have: RND1 has sixteen bytes, and where it is open its KeySetID is held
+-- a session that a card can have: RND1 is held in 32 bytes, and where it is open its KeySetID is held
 pub record Lawful (c : Card) (s : Session) : Type 0 where
-  pub rnd1 : length (s .rnd1) ≡ 16
+  pub rnd1 : length (s .rnd1) ≡ 32
   pub held : s .opened ≡ true → HeldIn c s
 
 pub none-lawful : (c : Card) → Lawful c noSession
@@ -51,16 +52,16 @@ module _ (c : Card) (g : Stocked c) (s : Session) (l : Lawful c s) (x : Call) wh
   accepts-by true e lf = initial-lawful c g (dataOf (x .command)) (x .fresh) lf (split-and (isInitial x) (acceptsInitial c (dataOf (x .command))) e .1)
   accepts-by false e lf = none-lawful c
 
-  next-by : (t : Bool) → eqb (verdictOn (x .command) (x .fresh) (x .room) .status) 0x9000 ≡ t →
+  next-by : (t : Bool) → eqb (verdictOn (keyLengthOf c) (x .command) (x .fresh) (x .room) .status) 0x9000 ≡ t →
       Lawful c (cond (not t) s (cond (isInitial x && acceptsInitial c (dataOf (x .command))) (initialReply c (dataOf (x .command)) (x .fresh) .session) noSession))
   next-by true e =
       accepts-by (isInitial x && acceptsInitial c (dataOf (x .command))) refl
-      (passed (length (x .command)) (frameOf (x .command)) (x .fresh) (x .room) (eqb-true _ _ e) .fresh-long)
+      (passed (keyLengthOf c) (length (x .command)) (frameOf (x .command)) (x .fresh) (x .room) (eqb-true _ _ e) .fresh-long)
   next-by false e = l
 
   next-lawful : Lawful c (nextSession c s x)
   unfolding nextSession
-  next-lawful = next-by (eqb (verdictOn (x .command) (x .fresh) (x .room) .status) 0x9000) refl
+  next-lawful = next-by (eqb (verdictOn (keyLengthOf c) (x .command) (x .fresh) (x .room) .status) 0x9000) refl
 
 -- every list of calls leaves a lawful session
 pub after-lawful : (c : Card) → Stocked c → (s : Session) → Lawful c s → (xs : List Call) → Lawful c (sessionAfter c s xs)
@@ -69,8 +70,8 @@ after-lawful c g s l [] = l
 after-lawful c g s l (x ∷ xs) = after-lawful c g (nextSession c s x) (next-lawful c g s l x) xs
 
 -- the FAKey of an open session is that of the slot that holds its KeySetID: the stand-in of `faKeyOf` is not met
-pub key-of-session : (c : Card) → Stocked c → c .session .opened ≡ true → (h : HeldIn c (c .session)) → faKeyOf c ≡ setAt c (h .slot) .«fa_key»
+pub key-of-session : (c : Card) → Stocked c → c .session .opened ≡ true → (h : HeldIn c (c .session)) → faKeyOf c ≡ held (keyLengthOf c) (setAt c (h .slot) .«fa_key»)
 unfolding faKeyOf
 key-of-session c g o h =
-    ap (λ (t : Bool). cond t (keyOf (c .sets) (c .session .id) (c .«shill_key»)) (c .«shill_key»)) o
-    ∙ key-held c g (c .session .id) (h .slot) (h .holds) (c .«shill_key»)
+    ap (λ (t : Bool). held (keyLengthOf c) (cond t (keyOf (c .sets) (c .session .id) (c .«shill_key»)) (c .«shill_key»))) o
+    ∙ ap (held (keyLengthOf c)) (key-held c g (c .session .id) (h .slot) (h .holds) (c .«shill_key»))

@@ -2,7 +2,7 @@
 use mathlib.Core.Path.{_≡_, refl, sym, ap, _∙_}
 use mathlib.Core.Bool.{Bool, true, false, cond, true≢false}
 use mathlib.Core.List.{List, [], _∷_, _++_, append-assoc}
-use Prim.Native.Nat.{ℕ, zero, suc, _+_, _/_, _%_, _<_}
+use Prim.Native.Nat.{ℕ, zero, suc, _+_, _/_, _%_, _<_, _≤_}
 use native.Mathlib.Nat.{not-suc-le-zero, le-of-suc-le-suc}
 use native.Mathlib.Omega.{arith}
 use lib.Dec.{eqb, ltb}
@@ -13,7 +13,9 @@ use Rattle.octets.specs.Same.{same-of, split-and}
 use Rattle.steps.specs.Made.{setMatched}
 use Rattle.frame.specs.Frame.{frameOf, statusOf}
 use Rattle.frame.specs.Declines.{padBytes, noZero, verdict}
+use Rattle.frame.specs.Laws.{length-pads}
 use Rattle.frame.specs.declared.Verdict.{Verdict}
+use Rattle.plaid_types.specs.Keys.{keyLengthOf}
 use Rattle.plaid_types.specs.Cards.{noSet, withSession}
 use Rattle.plaid_types.specs.declared.KeySetSlot.{KeySetSlot}
 use Rattle.plaid_types.specs.declared.KeySetId.{KeySetId}
@@ -21,6 +23,7 @@ use Rattle.plaid_types.specs.declared.Card.{Card}
 use Rattle.plaid_types.specs.declared.Outcome.{Outcome}
 use Rattle.load.specs.Laws.{Stocked, setAt}
 use Rattle.initial.specs.Initial.{str1, blockOf}
+use Rattle.initial.specs.Laws.{length-str1}
 use Rattle.final_command.specs.Final.{keyOf}
 use Rattle.card.specs.Command.{replyTo, done, undone, verdictOn, outcome, answerBytes}
 use Rattle.reader_open.specs.Open.{textOf, idOf, divOf, rnd1Of, rnd1Copy, agrees, opensAs, winner}
@@ -37,20 +40,23 @@ passes-by s true true false e z = e
 passes-by s true false d e z = absurd (omega arith)
 passes-by s false b d e z = absurd (omega arith)
 
-verdict-passes : (n : ℕ) (f fresh : List ℕ) (room : ℕ) → statusOf n f ≡ 0x9000 → verdict n f fresh room .number ≡ 0 → verdict n f fresh room .status ≡ 0x9000
+verdict-passes : (l n : ℕ) (f fresh : List ℕ) (room : ℕ) → statusOf n f ≡ 0x9000 → verdict l n f fresh room .number ≡ 0 → verdict l n f fresh room .status ≡ 0x9000
 unfolding verdict
-verdict-passes n f fresh room e z = passes-by (statusOf n f) (eqb (length fresh) 253) (noZero (padBytes fresh)) (ltb room 256) e z
+verdict-passes l n f fresh room e z = passes-by (statusOf n f) (eqb (length fresh) 253) (noZero (padBytes l fresh)) (ltb room 256) e z
 
 module _ (c : Card) (cmd fresh : List ℕ) (room : ℕ) (right : statusOf (length cmd) (frameOf cmd) ≡ 0x9000) where
-  ok-by : (t : Bool) → eqb (verdictOn cmd fresh room .status) 0x9000 ≡ t →
-      cond {A = Outcome} t (done c (replyTo c cmd fresh)) (undone c (verdictOn cmd fresh room)) .answer .number ≡ 0 →
-      eqb (verdictOn cmd fresh room .status) 0x9000 ≡ true
-  ok-by true e z = e
-  ok-by false e z = eq-eqb (verdictOn cmd fresh room .status) 0x9000 (verdict-passes (length cmd) (frameOf cmd) fresh room right z)
+  abbrev l : ℕ
+  l = keyLengthOf c
 
-  pub goes-on : outcome c cmd fresh room .answer .number ≡ 0 → eqb (verdictOn cmd fresh room .status) 0x9000 ≡ true
+  ok-by : (t : Bool) → eqb (verdictOn l cmd fresh room .status) 0x9000 ≡ t →
+      cond {A = Outcome} t (done c (replyTo c cmd fresh)) (undone c (verdictOn l cmd fresh room)) .answer .number ≡ 0 →
+      eqb (verdictOn l cmd fresh room .status) 0x9000 ≡ true
+  ok-by true e z = e
+  ok-by false e z = eq-eqb (verdictOn l cmd fresh room .status) 0x9000 (verdict-passes l (length cmd) (frameOf cmd) fresh room right z)
+
+  pub goes-on : outcome c cmd fresh room .answer .number ≡ 0 → eqb (verdictOn l cmd fresh room .status) 0x9000 ≡ true
   unfolding outcome
-  goes-on z = ok-by (eqb (verdictOn cmd fresh room .status) 0x9000) refl z
+  goes-on z = ok-by (eqb (verdictOn l cmd fresh room .status) 0x9000) refl z
 
   -- its answer bytes and its next card are those of the reply
   pub call-bytes : outcome c cmd fresh room .answer .number ≡ 0 → answerBytes c cmd fresh room ≡ replyTo c cmd fresh .bytes
@@ -60,61 +66,61 @@ module _ (c : Card) (cmd fresh : List ℕ) (room : ℕ) (right : statusOf (lengt
   pub call-card : outcome c cmd fresh room .answer .number ≡ 0 → outcome c cmd fresh room .card ≡ withSession c (replyTo c cmd fresh .session)
   unfolding outcome
   call-card z =
-      ap (λ (t : Bool). cond {A = Outcome} t (done c (replyTo c cmd fresh)) (undone c (verdictOn cmd fresh room)) .card)
+      ap (λ (t : Bool). cond {A = Outcome} t (done c (replyTo c cmd fresh)) (undone c (verdictOn l cmd fresh room)) .card)
       (goes-on z)
 
--- the card's block opens for its KeySetID
-module _ (fresh : List ℕ) (k : KeySetId) (div rnd1 : List ℕ) (lf : length (padBytes fresh) ≡ 203) (nz : noZero (padBytes fresh) ≡ true) (ld : length div ≡ 16) (lr : length rnd1 ≡ 16) where
-  t : List ℕ
-  t = str1 k div rnd1
-
-  long : length t ≡ 50
-  unfolding t str1
-  long = omega (arith, length-append div (rnd1 ++ rnd1), length-append rnd1 rnd1)
-
-  form : Encrypted (blockOf fresh t) (padBytes fresh) t
-  unfolding blockOf
-  form = record { is = ap (λ (l : List ℕ). 0 ∷ 2 ∷ l) (append-assoc (padBytes fresh) (0 ∷ []) t); nonzero = nz; ps-long = lf; m-long = long }
-
-  pub block-text : textOf (blockOf fresh (str1 k div rnd1)) ≡ str1 k div rnd1
-  unfolding t
-  block-text = form-text form
-
+-- the parts of STR1 with an RND1 of l bytes, as Open reads them
+module _ (l : ℕ) (k : KeySetId) (div rnd1 : List ℕ) (ld : length div ≡ 16) (lr : length rnd1 ≡ l) where
   pub text-div : divOf (str1 k div rnd1) ≡ div
   unfolding str1
   text-div = part-after (k .0 / 256 ∷ k .0 % 256 ∷ []) div (rnd1 ++ rnd1) 2 16 refl ld
 
-  pub text-rnd1 : rnd1Of (str1 k div rnd1) ≡ rnd1
+  pub text-rnd1 : rnd1Of l (str1 k div rnd1) ≡ rnd1
   unfolding str1
-  text-rnd1 = ap (λ (l : List ℕ). part l 18 16) (ap (λ (l : List ℕ). k .0 / 256 ∷ k .0 % 256 ∷ l) refl) ∙ part-after (k .0 / 256 ∷ k .0 % 256 ∷ div) rnd1 rnd1 18 16 (omega arith) lr
+  text-rnd1 = part-after (k .0 / 256 ∷ k .0 % 256 ∷ div) rnd1 rnd1 18 l (omega arith) lr
 
-  text-copy : rnd1Copy (str1 k div rnd1) ≡ rnd1
+  text-copy : rnd1Copy l (str1 k div rnd1) ≡ rnd1
   unfolding str1
   text-copy =
-      ap (λ (l : List ℕ). part (k .0 / 256 ∷ k .0 % 256 ∷ l) 34 16) (sym (append-assoc div rnd1 rnd1))
-      ∙ part-last (k .0 / 256 ∷ k .0 % 256 ∷ (div ++ rnd1)) rnd1 34 16 (omega (arith, length-append div rnd1)) lr
+      ap (λ (x : List ℕ). part (k .0 / 256 ∷ k .0 % 256 ∷ x) (18 + l) l) (sym (append-assoc div rnd1 rnd1))
+      ∙ part-last (k .0 / 256 ∷ k .0 % 256 ∷ (div ++ rnd1)) rnd1 (18 + l) l (omega (arith, length-append div rnd1)) lr
 
   text-id : idOf (str1 k div rnd1) .0 ≡ k .0
   unfolding str1
   text-id = omega arith
 
-  text-agrees : agrees k (str1 k div rnd1) ≡ true
+  text-agrees : agrees l k (str1 k div rnd1) ≡ true
   unfolding agrees
-  text-agrees = rw (eq-eqb (idOf (str1 k div rnd1) .0) (k .0) text-id) (same-of (rnd1Of (str1 k div rnd1)) (rnd1Copy (str1 k div rnd1)) (text-rnd1 ∙ sym text-copy))
+  text-agrees = rw (eq-eqb (idOf (str1 k div rnd1) .0) (k .0) text-id) (same-of (rnd1Of l (str1 k div rnd1)) (rnd1Copy l (str1 k div rnd1)) (text-rnd1 ∙ sym text-copy))
 
-  pub block-opens : opensAs k (blockOf fresh (str1 k div rnd1)) ≡ true
-  unfolding opensAs t
-  block-opens = rw (form-formed form, block-text) text-agrees
+  -- the card's block opens for its KeySetID
+  module _ (h : l ≤ 32) (fresh : List ℕ) (lf : length fresh ≡ 253) (nz : noZero (padBytes l fresh) ≡ true) where
+    form : Encrypted l (blockOf l fresh (str1 k div rnd1)) (padBytes l fresh) (str1 k div rnd1)
+    unfolding blockOf
+    form =
+        record {
+          is = ap (λ (x : List ℕ). 0 ∷ 2 ∷ x) (append-assoc (padBytes l fresh) (0 ∷ []) (str1 k div rnd1));
+          nonzero = nz;
+          ps-long = length-pads l fresh lf;
+          m-long = length-str1 l k div rnd1 ld lr;
+        }
+
+    pub block-text : textOf l (blockOf l fresh (str1 k div rnd1)) ≡ str1 k div rnd1
+    block-text = form-text l h form
+
+    pub block-opens : opensAs l k (blockOf l fresh (str1 k div rnd1)) ≡ true
+    unfolding opensAs
+    block-opens = rw (form-formed l h form, block-text) text-agrees
 
 -- the entry that opens with none before it is the winner
-module _ (ids : List KeySetId) (n : ℕ) (blocks : List ℕ) (j : ℕ) (h : j < n) (o : opensEntry ids blocks j ≡ true) (e : (m : ℕ) → m < j → opensEntry ids blocks m ≡ false) where
-  order-by : (i : ℕ) (a b : Bool) → ltb i j ≡ a → ltb j i ≡ b → opensEntry ids blocks i ≡ true → ((m : ℕ) → m < i → opensEntry ids blocks m ≡ false) → i ≡ j
+module _ (l : ℕ) (ids : List KeySetId) (n : ℕ) (blocks : List ℕ) (j : ℕ) (h : j < n) (o : opensEntry l ids blocks j ≡ true) (e : (m : ℕ) → m < j → opensEntry l ids blocks m ≡ false) where
+  order-by : (i : ℕ) (a b : Bool) → ltb i j ≡ a → ltb j i ≡ b → opensEntry l ids blocks i ≡ true → ((m : ℕ) → m < i → opensEntry l ids blocks m ≡ false) → i ≡ j
   order-by i true b p q oi ei = absurd (true≢false (sym oi ∙ e i (ltb-true i j p)))
   order-by i false true p q oi ei = absurd (true≢false (sym o ∙ ei j (ltb-true j i q)))
   order-by i false false p q oi ei = omega (arith, ltb-false i j p, ltb-false j i q)
 
-  pub winner-is : Winner ids n blocks → winner ids n blocks ≡ j
-  winner-is (won w) = order-by (winner ids n blocks) (ltb (winner ids n blocks) j) (ltb j (winner ids n blocks)) refl refl (w .opens) (w .earlier)
+  pub winner-is : Winner l ids n blocks → winner l ids n blocks ≡ j
+  winner-is (won w) = order-by (winner l ids n blocks) (ltb (winner l ids n blocks) j) (ltb j (winner l ids n blocks)) refl refl (w .opens) (w .earlier)
   winner-is (lost f q) = absurd (true≢false (sym o ∙ f j h))
 
 -- the FAKey found by KeySetID is that of the slot that holds it

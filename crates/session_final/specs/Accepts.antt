@@ -2,7 +2,7 @@
 use mathlib.Core.Path.{_≡_, refl, sym, ap}
 use mathlib.Core.Bool.{Bool, true, false, cond, and-eq-true-iff}
 use mathlib.Core.List.{List, [], _∷_}
-use Prim.Native.Nat.{ℕ, zero, suc, _+_, _-_, _%_, _<_, _≤_}
+use Prim.Native.Nat.{ℕ, zero, suc, _+_, _-_, _*_, _%_, _<_, _≤_}
 use native.Mathlib.Nat.{not-suc-le-zero}
 use native.Mathlib.Omega.{arith}
 use borrow.Author.Tests.{eqb-true, ltb-true, leb-true}
@@ -11,6 +11,7 @@ use Rattle.octets.specs.Lists.{part}
 use Rattle.octets.specs.Same.{split-and, same-true}
 use Rattle.padding.specs.Method2.{end, rightly}
 use Rattle.steps.specs.Made.{modeMatched}
+use Rattle.plaid_types.specs.Keys.{keyLengthOf}
 use Rattle.plaid_types.specs.Cards.{noMode}
 use Rattle.plaid_types.specs.declared.OpModeId.{OpModeId}
 use Rattle.plaid_types.specs.declared.ModeSlot.{ModeSlot}
@@ -19,35 +20,36 @@ use Rattle.load.specs.Laws.{modeAt, Stocked}
 use Rattle.final_command.specs.Final.{textOf, keysHash, opMode, firstMode, modeOf, decipheredText, accepting, acceptsFinal}
 
 -- "Accepted exactly when a session is open, Lc is a multiple of 16, the first 16n bytes are rightly padded, the unpadded text has at least 34
--- bytes, its last 16 equal KeysHash, and the mode is held" (its slot is below sixteen): of a text s
-pub record SixConditions (opened : Bool) (lc : ℕ) (s hash : List ℕ) (mode : ℕ) : Type 0 where
+-- bytes, its last 16 equal KeysHash, and the mode is held" (its slot is below sixteen): of a text s. T-04: "the shortest text has 2 + 2L bytes", and
+-- KeysHash has L
+pub record SixConditions (l : ℕ) (opened : Bool) (lc : ℕ) (s hash : List ℕ) (mode : ℕ) : Type 0 where
   pub in-session : opened ≡ true
   pub whole : lc % 16 ≡ 0
   pub right : rightly s ≡ true
-  pub long : 34 ≤ end s - 1
-  pub last : part s (end s - 1 - 16) 16 ≡ hash
+  pub long : 2 + 2 * l ≤ end s - 1
+  pub last : part s (end s - 1 - l) l ≡ hash
   pub below : mode < 16
 
-six-by : (opened : Bool) (lc : ℕ) (s hash : List ℕ) (mode : ℕ) → accepting opened lc s hash mode ≡ true → SixConditions opened lc s hash mode
+six-by : (l : ℕ) (opened : Bool) (lc : ℕ) (s hash : List ℕ) (mode : ℕ) → accepting l opened lc s hash mode ≡ true → SixConditions l opened lc s hash mode
 unfolding accepting
-six-by opened lc s hash mode e =
+six-by l opened lc s hash mode e =
     let a = split-and _ _ e in
     let b = split-and _ _ (a .1) in
     let k = split-and _ _ (b .1) in
-    let l = split-and _ _ (k .1) in
-    let m = split-and _ _ (l .1) in
+    let m = split-and _ _ (k .1) in
+    let n = split-and _ _ (m .1) in
     record {
       in-session = a .0;
       whole = eqb-true (lc % 16) 0 (b .0);
       right = k .0;
-      long = leb-true 34 (end s - 1) (l .0);
-      last = same-true (part s (end s - 1 - 16) 16) hash (m .0);
-      below = ltb-true mode 16 (m .1);
+      long = leb-true (2 + 2 * l) (end s - 1) (m .0);
+      last = same-true (part s (end s - 1 - l) l) hash (n .0);
+      below = ltb-true mode 16 (n .1);
     }
 
-pub six-conditions : (c : Card) (d : List ℕ) → acceptsFinal c d ≡ true → SixConditions (c .session .opened) (length d) (decipheredText c d) (keysHash c d) (modeOf c d)
+pub six-conditions : (c : Card) (d : List ℕ) → acceptsFinal c d ≡ true → SixConditions (keyLengthOf c) (c .session .opened) (length d) (decipheredText c d) (keysHash c d) (modeOf c d)
 unfolding acceptsFinal
-six-conditions c d e = six-by (c .session .opened) (length d) (decipheredText c d) (keysHash c d) (modeOf c d) e
+six-conditions c d e = six-by (keyLengthOf c) (c .session .opened) (length d) (decipheredText c d) (keysHash c d) (modeOf c d) e
 
 -- a slot that was found matches: it is held, and its number is the one looked for
 pub record Found (m : ModeSlot) (v : OpModeId) : Type 0 where

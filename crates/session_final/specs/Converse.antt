@@ -1,7 +1,7 @@
 -- The reverse of "what one seals the other opens": data that a card accepts are the data of Seal's command, byte for byte, for the mode, RND2 and
 -- payload that its text names. Assumes nothing.
 use mathlib.Core.Path.{_≡_, refl, sym, ap, ap₂, _∙_}
-use mathlib.Core.Bool.{Bool, true, cond}
+use mathlib.Core.Bool.{true}
 use mathlib.Core.List.{List, [], _∷_, _++_}
 use Prim.Native.Nat.{ℕ, suc, _+_, _-_, _*_, _/_, _%_, _<_, _≤_}
 use native.Mathlib.Omega.{arith}
@@ -12,7 +12,6 @@ use Rattle.octets.specs.Lists.{part, over, length-part}
 use Rattle.octets.specs.Writes.{over-front}
 use Rattle.octets.specs.ByteLists.{part-bytes, zeros-bytes}
 use Rattle.aes.specs.Aes.{aesUnder, invAesUnder}
-use Rattle.aes.specs.RoundTrip.{aes-block}
 use Rattle.padding.specs.Method2.{blocksFor, padded, end, rightly, unpadded}
 use Rattle.padding.specs.Laws.{unpadded-lt, unpadded-whole, padded-unpadded}
 use Rattle.padding.specs.declared.Unpadded.the-variants.{Text}
@@ -22,12 +21,14 @@ use Rattle.cbc.specs.Aes.{aes-cipher, encrypted-decrypted-aes}
 use Rattle.cbc.specs.Lengths.{length-decrypted}
 use Rattle.frame.specs.Frame.{frameOf, insOf, finalIns, statusOf, dataOf}
 use Rattle.frame.specs.Laws.{Faultless, faultless, frame-byte, frame-last, data-long}
+use Rattle.plaid_types.specs.Keys.{keyLengthOf}
 use Rattle.plaid_types.specs.declared.OpModeId.{OpModeId}
-use Rattle.plaid_types.specs.declared.Session.{Session}
 use Rattle.plaid_types.specs.declared.Card.{Card}
 use Rattle.load.specs.Laws.{Stocked}
 use Rattle.final_command.specs.Final.{faKeyOf, rnd1Of, diversified, blocksIn, textOf, hashedOf, keysHash, opMode, modeOf, decipheredText, acceptsFinal}
-use Rattle.reader_seal.specs.Seal.{keysHashOf, diversifiedBy, str2, sealedData, finalCommand, sealCommand}
+use Rattle.diversification.specs.Diversification.{diversifiedBy}
+use Rattle.diversification.specs.Laws.{diversified-bytes}
+use Rattle.reader_seal.specs.Seal.{keysHashOf, str2, sealedData, finalCommand, sealCommand, payloadMost}
 use Rattle.reader_seal.specs.Laws.{length-sealedData}
 use Rattle.session_final.specs.SealFrame.{seal-data}
 use Rattle.session_final.specs.Buffer.{over-part}
@@ -64,38 +65,41 @@ abbrev pub modeIn : Card → List ℕ → OpModeId
 modeIn c d = opMode (textOf c d)
 
 abbrev pub rnd2In : Card → List ℕ → List ℕ
-rnd2In c d = part (textOf c d) 2 16
+rnd2In c d = part (textOf c d) 2 (keyLengthOf c)
 
 abbrev pub payloadIn : Card → List ℕ → List ℕ
-payloadIn c d = part (decipheredText c d) 18 (end (decipheredText c d) - 1 - 34)
+payloadIn c d = part (decipheredText c d) (2 + keyLengthOf c) (end (decipheredText c d) - 1 - (2 + 2 * keyLengthOf c))
 
 -- data that are sealed for card c
 pub record SealedFor (c : Card) (d : List ℕ) : Type 0 where
   -- the session is open, and these are a mode number, RND2 and payload that Seal may be given (`seal-accepted` takes them)
-  pub shared : SharedSession c (c .session .id) (faKeyOf c) (rnd1Of c) (rnd2In c d) (modeIn c d) (payloadIn c d)
-  -- "payload of 0 to 205 bytes"
-  pub payload-most : length (payloadIn c d) ≤ 205
+  pub shared : SharedSession (keyLengthOf c) c (faKeyOf c) (rnd1Of c) (rnd2In c d) (modeIn c d) (payloadIn c d)
+  -- "payload of 0 to 205 bytes". T-04: "Payload limits are 205, 189 and 173"
+  pub payload-most : length (payloadIn c d) ≤ payloadMost (keyLengthOf c)
   -- "the mode is held"
   pub mode-held : Found (namedSlot c d) (modeIn c d)
-  -- "KeysHash is the first 16 bytes of the hash", at both ends
-  pub one-hash : keysHash c d ≡ keysHashOf (rnd1Of c) (rnd2In c d)
+  -- "KeysHash is the first 16 bytes of the hash", at both ends. T-04: "SHA-256 output is cut to L"
+  pub one-hash : keysHash c d ≡ keysHashOf (keyLengthOf c) (rnd1Of c) (rnd2In c d)
   -- "STR2 = OpModeID, RND2, payload .., KeysHash, padded, CBC under the diversified key"
-  pub sealed-text : d ≡ sealedData (diversified c) (modeIn c d) (rnd2In c d) (payloadIn c d) (keysHash c d)
+  pub sealed-text : d ≡ sealedData (keyLengthOf c) (diversified c) (modeIn c d) (rnd2In c d) (payloadIn c d) (keysHash c d)
   -- the data of Seal's command
-  pub by-seal : d ≡ sealed c (faKeyOf c) (rnd1Of c) (rnd2In c d) (modeIn c d) (payloadIn c d)
+  pub by-seal : d ≡ sealed (keyLengthOf c) c (faKeyOf c) (rnd1Of c) (rnd2In c d) (modeIn c d) (payloadIn c d)
 
 -- FAKey, DivData and the data are bytes, and the data are so many as a frame has at most. (Nothing is asked of RND1)
 module _ (c : Card) (d : List ℕ) (g : Stocked c) (hf : Bytes (faKeyOf c)) (hv : Bytes (c .«div_data»)) (hd : Bytes d) (most : length d < 256)
     (e : acceptsFinal c d ≡ true) where
-  six : SixConditions (c .session .opened) (length d) (decipheredText c d) (keysHash c d) (modeOf c d)
+  six : SixConditions (keyLengthOf c) (c .session .opened) (length d) (decipheredText c d) (keysHash c d) (modeOf c d)
   six = six-conditions c d e
 
   div-block : Block (c .«div_data»)
   div-block = record { long = g .div-long; byte = hv }
 
+  abbrev l : ℕ
+  l = keyLengthOf c
+
   key-bytes : Bytes (diversified c)
   unfolding diversified
-  key-bytes = aes-block (length (faKeyOf c) / 4) (faKeyOf c) hf (c .«div_data») div-block .byte
+  key-bytes = diversified-bytes (faKeyOf c) (c .«div_data») hf div-block
 
   length-data : length d ≡ 16 * blocksIn d
   length-data = omega (arith, six .whole)
@@ -130,16 +134,16 @@ module _ (c : Card) (d : List ℕ) (g : Stocked c) (hf : Bytes (faKeyOf c)) (hv 
   size-less : size < 16 * blocksIn d
   size-less = omega (arith, unpadded-lt (decipheredText c d) size text-is, length-plain)
 
-  length-payload : length (payloadIn c d) ≡ size - 34
-  length-payload = length-part (decipheredText c d) 18 (size - 34) (omega (arith, size-less, length-plain, six .long))
+  length-payload : length (payloadIn c d) ≡ size - (2 + 2 * l)
+  length-payload = length-part (decipheredText c d) (2 + l) (size - (2 + 2 * l)) (omega (arith, size-less, length-plain, six .long))
 
-  -- its first two bytes are the mode, RND2 follows, and its last sixteen bytes are KeysHash
+  -- its first two bytes are the mode, RND2 follows, and its last L bytes are KeysHash
   byte-at : (i : ℕ) → i < length (decipheredText c d) → getD (textOf c d) i 0 ≡ getD (decipheredText c d) i 0
   byte-at i h =
-      ap (λ (l : List ℕ). getD l i 0) text-front
+      ap (λ (x : List ℕ). getD x i 0) text-front
       ∙ List·getD-append (decipheredText c d) (drop (length (decipheredText c d)) (replicate 240 0)) 0 i h
 
-  enough : 34 < length (decipheredText c d)
+  enough : 2 + 2 * l < length (decipheredText c d)
   enough = omega (arith, size-less, length-plain, six .long)
 
   high-is : modeIn c d .0 / 256 ≡ getD (decipheredText c d) 0 0
@@ -150,65 +154,58 @@ module _ (c : Card) (d : List ℕ) (g : Stocked c) (hf : Bytes (faKeyOf c)) (hv 
   unfolding opMode
   low-is = omega (arith, enough, byte-at 0 (omega (arith, enough)), byte-at 1 (omega (arith, enough)), plain-bytes 1)
 
-  rnd2-is : rnd2In c d ≡ part (decipheredText c d) 2 16
+  rnd2-is : rnd2In c d ≡ part (decipheredText c d) 2 l
   rnd2-is =
-      ap (λ (l : List ℕ). part l 2 16) text-front
-      ∙ part-front (decipheredText c d) (drop (length (decipheredText c d)) (replicate 240 0)) 2 16 (omega (arith, enough))
+      ap (λ (x : List ℕ). part x 2 l) text-front
+      ∙ part-front (decipheredText c d) (drop (length (decipheredText c d)) (replicate 240 0)) 2 l (omega (arith, enough))
 
   str2-is : str2 (modeIn c d) (rnd2In c d) (payloadIn c d) (keysHash c d) ≡ take size (decipheredText c d)
   unfolding str2
   str2-is =
       let s : List ℕ = decipheredText c d in
-      let at : size - 16 ≡ 18 + (size - 34) = omega (arith, six .long) in
-      let all : 2 + (16 + (size - 34 + 16)) ≡ size = omega (arith, six .long) in
+      let at : size - l ≡ 2 + l + (size - (2 + 2 * l)) = omega (arith, six .long) in
+      let all : 2 + (l + (size - (2 + 2 * l) + l)) ≡ size = omega (arith, six .long) in
       ap₂ (λ (x y : ℕ). x ∷ y ∷ (rnd2In c d ++ (payloadIn c d ++ keysHash c d))) high-is low-is
-      ∙ ap₂ (λ (x y : List ℕ). getD s 0 0 ∷ getD s 1 0 ∷ (x ++ (payloadIn c d ++ y))) rnd2-is (sym (six .last) ∙ ap (λ (n : ℕ). part s n 16) at)
-      ∙ sym (front-parts s 16 (size - 34) 16 (omega (arith, enough)))
+      ∙ ap₂ (λ (x y : List ℕ). getD s 0 0 ∷ getD s 1 0 ∷ (x ++ (payloadIn c d ++ y))) rnd2-is (sym (six .last) ∙ ap (λ (n : ℕ). part s n l) at)
+      ∙ sym (front-parts s l (size - (2 + 2 * l)) l (omega (arith, enough)))
       ∙ ap (λ (n : ℕ). take n s) all
 
-  blocks-is : blocksFor (34 + length (payloadIn c d)) ≡ blocksIn d
+  blocks-is : blocksFor (2 + 2 * l + length (payloadIn c d)) ≡ blocksIn d
   blocks-is = omega (arith, length-payload, six .long, unpadded-whole (decipheredText c d) size text-is, length-plain)
 
   -- padded and enciphered again, it is the data
-  sealed-again : sealedData (diversified c) (modeIn c d) (rnd2In c d) (payloadIn c d) (keysHash c d) ≡ d
+  sealed-again : sealedData (keyLengthOf c) (diversified c) (modeIn c d) (rnd2In c d) (payloadIn c d) (keysHash c d) ≡ d
   unfolding sealedData
   sealed-again =
       ap₂ (λ (n : ℕ) (t : List ℕ). encrypted (aesUnder (diversified c)) zeros n t) blocks-is
       (ap padded str2-is ∙ padded-unpadded (decipheredText c d) size text-is ∙ plain-is)
       ∙ encrypted-decrypted-aes (length (diversified c) / 4) (diversified c) key-bytes zeros d (zeros-bytes 16) hd (blocksIn d) length-data
 
-  hash-is : keysHash c d ≡ keysHashOf (rnd1Of c) (rnd2In c d)
+  hash-is : keysHash c d ≡ keysHashOf (keyLengthOf c) (rnd1Of c) (rnd2In c d)
   unfolding keysHash keysHashOf hashedOf
   hash-is = refl
 
-  by-seal-is : d ≡ sealed c (faKeyOf c) (rnd1Of c) (rnd2In c d) (modeIn c d) (payloadIn c d)
-  unfolding diversifiedBy diversified
+  by-seal-is : d ≡ sealed (keyLengthOf c) c (faKeyOf c) (rnd1Of c) (rnd2In c d) (modeIn c d) (payloadIn c d)
+  unfolding diversified
   by-seal-is =
       sym sealed-again
-      ∙ ap (sealedData (diversified c) (modeIn c d) (rnd2In c d) (payloadIn c d)) hash-is
-      ∙ sym (seal-data (faKeyOf c) (c .«div_data») (rnd1Of c) (rnd2In c d) (modeIn c d) (payloadIn c d))
-
-  session-is : c .session ≡ record { opened = true; id = c .session .id; rnd1 = rnd1Of c }
-  unfolding rnd1Of
-  session-is =
-      let r : cond (c .session .opened) (c .session .rnd1) zeros ≡ c .session .rnd1 = rw (six .in-session) in
-      let s : Bool → List ℕ → Session = λ t l. record { opened = t; id = c .session .id; rnd1 = l } in
-      ap₂ s (six .in-session) (sym r)
+      ∙ ap (sealedData (keyLengthOf c) (diversified c) (modeIn c d) (rnd2In c d) (payloadIn c d)) hash-is
+      ∙ sym (seal-data (keyLengthOf c) (faKeyOf c) (c .«div_data») (rnd1Of c) (rnd2In c d) (modeIn c d) (payloadIn c d))
 
   pub accepted-sealed : SealedFor c d
   accepted-sealed =
       record {
         shared =
             record {
-              in-session = session-is;
+              same-length = refl;
+              in-session = six .in-session;
               same-key = refl;
+              same-rnd1 = refl;
               key-bytes = hf;
               div-block = div-block;
-              rnd2-block = rw rnd2-is (record {
-                long = length-part (decipheredText c d) 2 16 (omega (arith, enough));
-                byte = part-bytes (decipheredText c d) 2 16 plain-bytes;
-              });
-              payload-bytes = part-bytes (decipheredText c d) 18 (size - 34) plain-bytes;
+              rnd2-long = ap length rnd2-is ∙ length-part (decipheredText c d) 2 l (omega (arith, enough));
+              rnd2-bytes = rw rnd2-is (part-bytes (decipheredText c d) 2 l plain-bytes);
+              payload-bytes = part-bytes (decipheredText c d) (2 + l) (size - (2 + 2 * l)) plain-bytes;
               mode-most = omega (arith, high-is, plain-bytes 0);
             };
         payload-most = omega (arith, length-payload, size-less, length-data);
@@ -258,16 +255,16 @@ data-bytes cmd h = part-bytes cmd 5 (length cmd - 6) h
 -- so a final command that a card accepts is Seal's command, byte for byte
 pub accepted-command : (c : Card) (cmd : List ℕ) → Stocked c → Bytes (faKeyOf c) → Bytes (c .«div_data») → Bytes cmd →
     statusOf (length cmd) (frameOf cmd) ≡ 0x9000 → insOf (frameOf cmd) ≡ finalIns → acceptsFinal c (dataOf cmd) ≡ true →
-    cmd ≡ sealCommand (faKeyOf c) (c .«div_data») (rnd1Of c) (rnd2In c (dataOf cmd)) (modeIn c (dataOf cmd)) (payloadIn c (dataOf cmd))
+    cmd ≡ sealCommand (keyLengthOf c) (faKeyOf c) (c .«div_data») (rnd1Of c) (rnd2In c (dataOf cmd)) (modeIn c (dataOf cmd)) (payloadIn c (dataOf cmd))
 unfolding sealCommand
 accepted-command c cmd g hf hv hb q i e =
     let d : List ℕ = dataOf cmd in
     let k : Faultless (length cmd) (frameOf cmd) = faultless (length cmd) (frameOf cmd) q in
     let most : length d < 256 = omega (arith, data-long cmd k, frame-byte cmd 4 (omega arith), hb 4) in
     let key : List ℕ = diversifiedBy (faKeyOf c) (c .«div_data») in
-    let hash : List ℕ = keysHashOf (rnd1Of c) (rnd2In c d) in
-    let x : d ≡ sealedData key (modeIn c d) (rnd2In c d) (payloadIn c d) hash =
+    let hash : List ℕ = keysHashOf (keyLengthOf c) (rnd1Of c) (rnd2In c d) in
+    let x : d ≡ sealedData (keyLengthOf c) key (modeIn c d) (rnd2In c d) (payloadIn c d) hash =
     accepted-sealed c d g hf hv (data-bytes cmd hb) most e .by-seal
-    ∙ seal-data (faKeyOf c) (c .«div_data») (rnd1Of c) (rnd2In c d) (modeIn c d) (payloadIn c d) in
+    ∙ seal-data (keyLengthOf c) (faKeyOf c) (c .«div_data») (rnd1Of c) (rnd2In c d) (modeIn c d) (payloadIn c d) in
     framed-again cmd k i
-    ∙ ap₂ finalCommand (ap length x ∙ length-sealedData key (modeIn c d) (rnd2In c d) (payloadIn c d) hash) x
+    ∙ ap₂ finalCommand (ap length x ∙ length-sealedData (keyLengthOf c) key (modeIn c d) (rnd2In c d) (payloadIn c d) hash) x

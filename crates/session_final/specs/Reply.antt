@@ -14,6 +14,7 @@ use Rattle.padding.specs.Method2.{blocksFor, padded}
 use Rattle.padding.specs.Laws.{length-padded}
 use Rattle.cbc.specs.Cbc.{encrypted, zeros}
 use Rattle.cbc.specs.Laws.{encrypted-front}
+use Rattle.plaid_types.specs.Keys.{keyLengthOf, held}
 use Rattle.plaid_types.specs.declared.ModeSlot.{ModeSlot}
 use Rattle.plaid_types.specs.declared.Card.{Card}
 use Rattle.load.specs.Laws.{modeAt, GoodRecord, Stocked}
@@ -115,9 +116,9 @@ module _ (c : Card) (d fresh : List ℕ) (g : Stocked c) where
               (body-fills c (namedSlot c d) g good-named);
         }
 
-  -- "Otherwise the first 16B fresh bytes go by CBC under the shill key, unpadded." (That a call gets 253 fresh bytes is checked before)
+  -- "Otherwise the first 16B fresh bytes go by CBC under the shill key, unpadded." T-04: of the card's L bytes. (That a call gets 253 fresh bytes is checked before)
   module _ (e : acceptsFinal c d ≡ false) (h : length fresh ≡ 253) where
-    key-refused : replyKey c d ≡ c .«shill_key»
+    key-refused : replyKey c d ≡ held (keyLengthOf c) (c .«shill_key»)
     unfolding replyKey
     key-refused = rw e
 
@@ -125,7 +126,7 @@ module _ (c : Card) (d fresh : List ℕ) (g : Stocked c) where
     unfolding replyText
     text-refused = rw (e, size-loaded c (g .size-most))
 
-    pub refused-reply : finalReply c d fresh .bytes ≡ encrypted (aesUnder (c .«shill_key»)) zeros (c .«reply_size») (part fresh 0 (16 * c .«reply_size»))
+    pub refused-reply : finalReply c d fresh .bytes ≡ encrypted (aesUnder (held (keyLengthOf c) (c .«shill_key»))) zeros (c .«reply_size») (part fresh 0 (16 * c .«reply_size»))
     refused-reply =
-        reply-by c d fresh (c .«shill_key») (part fresh 0 (16 * c .«reply_size»)) g key-refused text-refused
+        reply-by c d fresh (held (keyLengthOf c) (c .«shill_key»)) (part fresh 0 (16 * c .«reply_size»)) g key-refused text-refused
         (length-part fresh 0 (16 * c .«reply_size») (omega (arith, g .size-most)))

@@ -7,7 +7,6 @@ use lib.ListN.{length}
 use Rattle.aes.specs.Aes.{aesUnder}
 use Rattle.padding.specs.Method2.{blocksFor, padded}
 use Rattle.cbc.specs.Cbc.{encrypted, zeros}
-use Rattle.plaid_types.specs.declared.KeySetId.{KeySetId}
 use Rattle.plaid_types.specs.declared.OpModeId.{OpModeId}
 use Rattle.plaid_types.specs.declared.ModeSlot.{ModeSlot}
 use Rattle.plaid_types.specs.declared.Card.{Card}
@@ -44,16 +43,16 @@ module _ (c : Card) (mode : OpModeId) (g : Stocked c) (h : firstMode 0 mode (c .
   sealed-size : c .«reply_size» ≡ blocksFor (length (sealedBody c mode) + 16)
   sealed-size = sym (body-size c (sealedSlot c mode) g sealed-good)
 
-module _ (c : Card) (i : KeySetId) (fa r1 r2 : List ℕ) (mode : OpModeId) (payload : List ℕ) (k : SharedSession c i fa r1 r2 mode payload) (g : Stocked c)
+module _ (l : ℕ) (c : Card) (fa r1 r2 : List ℕ) (mode : OpModeId) (payload : List ℕ) (k : SharedSession l c fa r1 r2 mode payload) (g : Stocked c)
     (h : firstMode 0 mode (c .modes) < 16) where
   -- the reply is the mode's body and DivData, padded, by CBC under KeysHash
   pub seal-reply : (fresh : List ℕ) →
-      finalReply c (sealed c fa r1 r2 mode payload) fresh .bytes ≡
-      encrypted (aesUnder (keysHashOf r1 r2)) zeros (blocksFor (length (sealedBody c mode) + 16)) (padded (sealedBody c mode ++ c .«div_data»))
+      finalReply c (sealed l c fa r1 r2 mode payload) fresh .bytes ≡
+      encrypted (aesUnder (keysHashOf l r1 r2)) zeros (blocksFor (length (sealedBody c mode) + 16)) (padded (sealedBody c mode ++ c .«div_data»))
   seal-reply fresh =
-      let d : List ℕ = sealed c fa r1 r2 mode payload in
-      accepted-reply c d fresh g (seal-accepted c i fa r1 r2 mode payload k h) .replied
-      ∙ bytes-by (keysHash c d) (keysHashOf r1 r2) (c .«reply_size») (blocksFor (length (sealedBody c mode) + 16))
+      let d : List ℕ = sealed l c fa r1 r2 mode payload in
+      accepted-reply c d fresh g (seal-accepted l c fa r1 r2 mode payload k h) .replied
+      ∙ bytes-by (keysHash c d) (keysHashOf l r1 r2) (c .«reply_size») (blocksFor (length (sealedBody c mode) + 16))
       (padded (namedBody c d ++ c .«div_data»)) (padded (sealedBody c mode ++ c .«div_data»))
-      (seal-keysHash c i fa r1 r2 mode payload k) (sealed-size c mode g h)
-      (ap (λ (n : ℕ). padded (bodyAt c (modeAt c n) ++ c .«div_data»)) (seal-slot c i fa r1 r2 mode payload k))
+      (seal-keysHash l c fa r1 r2 mode payload k) (sealed-size c mode g h)
+      (ap (λ (n : ℕ). padded (bodyAt c (modeAt c n) ++ c .«div_data»)) (seal-slot l c fa r1 r2 mode payload k))

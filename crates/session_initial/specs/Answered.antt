@@ -1,6 +1,6 @@
 -- Of the KeySetIDs that are listed, in any form that encodes them, the card answers for the first that it holds: the slot, whether the command is accepted,
 -- and the reply; and two forms of one list get one answer. Assumes nothing.
-use mathlib.Core.Path.{_≡_, refl, sym, ap, _∙_}
+use mathlib.Core.Path.{_≡_, refl, sym, ap, subst, _∙_}
 use mathlib.Core.Bool.{Bool, true, false, cond, false≢true}
 use mathlib.Core.List.{List, [], _∷_}
 use Prim.Native.Nat.{ℕ, zero, suc, _≤_}
@@ -13,13 +13,14 @@ use Rattle.octets.specs.Lists.{part}
 use Rattle.list.specs.Ber.{entryAt, placeCount, noEntry, listed}
 use Rattle.list.specs.Encoding.{Encodes}
 use Rattle.list.specs.Meaning.{Lists, ends, goes-on, encodes-formed, encodes-lists, encodes-few}
+use Rattle.plaid_types.specs.Keys.{keyLengthOf}
 use Rattle.plaid_types.specs.Cards.{noSet, Reply}
 use Rattle.plaid_types.specs.declared.KeySetId.{KeySetId}
 use Rattle.plaid_types.specs.declared.KeySetSlot.{KeySetSlot}
 use Rattle.plaid_types.specs.declared.Card.{Card}
 use Rattle.load.specs.Load.{some}
-use Rattle.load.specs.Laws.{Stocked}
-use Rattle.initial.specs.Initial.{firstSlot, firstPlace, slotOf, acceptsInitial, str1, blockOf, acceptedInitial, refusedInitial, initialReply}
+use Rattle.load.specs.Laws.{Stocked, stocked-length}
+use Rattle.initial.specs.Initial.{firstSlot, firstPlace, slotOf, acceptsInitial, str1, blockOf, openedWith, acceptedInitial, refusedInitial, initialReply}
 use Rattle.reader_list.specs.List.{numbers}
 use Rattle.session_initial.specs.Held.{heldIn, held, firstOf, firstHeld, slot-missing, Holds, slot-holds, slot-none}
 
@@ -79,32 +80,37 @@ pub list-slot :
     → Holds (c .sets) (slotOf c d) (getD ids (firstHeld c ids) (noSet .id))
 list-slot c s ids d e q = slot-encoded c s ids d e .some-held q
 
--- the reply r answers for a slot that is held with KeySetID k
-pub record Answers (c : Card) (fresh : List ℕ) (k : KeySetId) (slot : KeySetSlot) (r : Reply) : Type 0 where
+-- the reply r of a card with keys of l bytes answers for a slot that is held with KeySetID k
+pub record Answers (l : ℕ) (c : Card) (fresh : List ℕ) (k : KeySetId) (slot : KeySetSlot) (r : Reply) : Type 0 where
   pub kept : slot .held ≡ true
   pub id : slot .id ≡ k
-  pub bytes : r .bytes ≡ blockOf fresh (str1 k (c .«div_data») (part fresh 0 16))
+  pub bytes : r .bytes ≡ blockOf l fresh (str1 k (c .«div_data») (part fresh 0 l))
   pub handle : r .handle ≡ slot .handle
-  pub session : r .session ≡ record { opened = true; id = slot .id; rnd1 = part fresh 0 16 }
+  pub session : r .session ≡ openedWith (slot .id) (part fresh 0 l)
 
 answers-by :
     (c : Card) (d fresh : List ℕ) (k : KeySetId) (slot : KeySetSlot) (t : Bool)
     → t ≡ true
     → slot .held ≡ true
     → slot .id ≡ k
-    → Answers c fresh k slot (cond t (acceptedInitial c d fresh slot) (refusedInitial c d fresh))
+    → Answers (keyLengthOf c) c fresh k slot (cond t (acceptedInitial c d fresh slot) (refusedInitial c d fresh))
 answers-by c d fresh k slot true e p q =
-    record { kept = p; id = q; bytes = ap (λ (i : KeySetId). blockOf fresh (str1 i (c .«div_data») (part fresh 0 16))) q; handle = refl; session = refl }
+    let l : ℕ = keyLengthOf c in
+    record { kept = p; id = q; bytes = ap (λ (i : KeySetId). blockOf l fresh (str1 i (c .«div_data») (part fresh 0 l))) q; handle = refl; session = refl }
 answers-by c d fresh k slot false e p q = absurd (false≢true e)
 
--- the reply to a list of which the card holds some KeySetID: the block, the handle and the session are those of the first listed that it holds
+-- the reply to a list of which the card holds some KeySetID: the block, the handle and the session are those of the first listed that it holds, with
+-- the card's L
 pub list-answered :
     (c : Card) → Stocked c → (ids : List KeySetId) (d fresh : List ℕ) → Encodes (numbers ids) d → some (held c) ids ≡ true
-    → Answers c fresh (getD ids (firstHeld c ids) (noSet .id)) (getD (c .sets) (slotOf c d) noSet) (initialReply c d fresh)
+    → Answers (c .«key_length») c fresh (getD ids (firstHeld c ids) (noSet .id)) (getD (c .sets) (slotOf c d) noSet) (initialReply c d fresh)
 unfolding initialReply
 list-answered c s ids d fresh e q =
     let a = list-slot c s ids d e q in
-    answers-by c d fresh (getD ids (firstHeld c ids) (noSet .id)) (getD (c .sets) (slotOf c d) noSet) (acceptsInitial c d) (list-accepted c s ids d e ∙ q) (a .kept) (a .id)
+    let k : KeySetId = getD ids (firstHeld c ids) (noSet .id) in
+    let slot : KeySetSlot = getD (c .sets) (slotOf c d) noSet in
+    subst (λ (l : ℕ). Answers l c fresh k slot (initialReply c d fresh)) (stocked-length c s)
+    (answers-by c d fresh k slot (acceptsInitial c d) (list-accepted c s ids d e ∙ q) (a .kept) (a .id))
 
 -- the form of the list is not seen: two encodings of it lead to one slot, and so to one block, handle and session
 slots-alike : (ss : List KeySetSlot) (d d′ : List ℕ) (p p′ : ℕ) (ids : List ℕ) (n m : ℕ) → length ss ≡ 8 → length ids ≤ n → length ids ≤ m → Lists d p ids → Lists d′ p′ ids →

@@ -1,7 +1,8 @@
 -- FIPS 180-4, section 6.2.2: SHA-256 hash computation. "Addition (+) is performed modulo 2^32."
+use mathlib.Core.Path.{_≡_, refl}
 use mathlib.Core.List.{List, [], _∷_, _++_}
 use Prim.Native.Nat.{ℕ, zero, suc, _+_}
-use lib.ListN.{getD}
+use lib.ListN.{length, getD}
 use Rattle.octets.specs.Lists.{table}
 use Rattle.sha_words.specs.Words.{plus, wordBytes}
 use Rattle.sha_words.specs.Functions.{ch, maj, upperSigma0, upperSigma1, sigma0, sigma1}
@@ -67,3 +68,8 @@ digestBytes h =
 -- "After repeating steps one through four a total of N times (i.e., after processing M(N))"
 unfoldable pub sha256 : List ℕ → List ℕ
 sha256 m = digestBytes (stateAfter m (blocks m))
+
+-- 256 bits
+pub length-sha256 : (m : List ℕ) → length (sha256 m) ≡ 32
+unfolding sha256 digestBytes
+length-sha256 m = refl

@@ -8,7 +8,7 @@
 // A.2 or A.3, from 0. sha256-N is of N bytes, at most 1,024, which are zeros the first time; each digest then goes over the first 32.
 ghost use mathlib.Core.Path.{_≡_};
 ghost use mathlib.Core.Bool.{true};
-ghost use Prim.Native.Nat.{_<_, _≤_};
+ghost use Prim.Native.Nat.{_<_, _≤_, _^_};
 ghost use lib.ListN.{length};
 ghost use Rattle.key_expansion.specs.KeyLength.{keyLength};
 
@@ -80,9 +80,10 @@ fn encipher(w: &[[u8; 16]], times: usize) -> [u8; 16]
     requires { ⌜ 1 < length (now w) ⌝ }
 {
     let mut b = block(b"00112233445566778899aabbccddeeff");
+    let table = sbox::byte_table();
     let mut i = 0;
     while i < times {
-        let next = aes::encipher(w, b);
+        let next = aes::encipher(&table, w, b);
         b = next;
         i += 1;
     }
@@ -106,9 +107,10 @@ fn decipher(n: usize, w: &[[u8; 16]], times: usize) -> [u8; 16]
     requires { ⌜ 1 < length (now w) ⌝ }
 {
     let mut b = ciphertext(n);
+    let table = sbox::inv_byte_table();
     let mut i = 0;
     while i < times {
-        let next = aes::decipher(w, b);
+        let next = aes::decipher(&table, w, b);
         b = next;
         i += 1;
     }
@@ -127,9 +129,10 @@ fn expand(key: &mut [u8], times: usize) -> [u8; 16]
     requires { ⌜ keyLength (length (now key)) ≡ true ⌝ }
 {
     let last = key.len() / 4 + 6;
+    let table = sbox::byte_table();
     let mut i = 0;
     while i < times {
-        let w = key_expansion::expand(key);
+        let w = key_expansion::expand(&table, key);
         put_row(key, w[last]);
         i += 1;
     }
@@ -145,8 +148,8 @@ fn show_expand(n: usize, times: usize) {
     show_block(expand(&mut key[..n], times));
 }
 
-// SHA-256 of the first n bytes, at least once; each digest goes over the first 32. Two calls, and a length that only the run knows, so
-// that the operation stays a function, as in firmware.
+// SHA-256 of the first n bytes, at least once; each digest goes over the first 32. By two calls, and with a length that only the run knows,
+// it stays a function, as in firmware; so do key expansion and a block of AES.
 fn hash(text: &mut [u8], n: usize, times: usize) -> [u8; 32]
     requires { ⌜ n ≤ length (now text) ⌝ }
     requires { ⌜ 32 ≤ length (now text) ⌝ }
@@ -189,7 +192,7 @@ fn chain_once(
     }
 }
 
-// CBC on `text` in place, at least once, by two calls as above. The sum is handed on from one time to the next.
+// CBC on `text` in place, at least once. The sum is handed on from one time to the next. The compiler puts CBC into `chain_once`.
 fn chain(key: &[u8], w: &[[u8; 16]], text: &mut [u8], is_inverse: bool, times: usize) -> u32
     requires { ⌜ 1 < length (now w) ⌝ }
 {
@@ -248,8 +251,10 @@ fn show_chain(key: &[u8], w: &[[u8; 16]], is_inverse: bool, times: usize)
     }
 }
 
-// The work sum over round keys, at least once, by two calls as above.
-fn sum_rows(w: &[[u8; 16]], times: usize) -> u32 {
+// The work sum over round keys, at least once. The compiler puts it, and this function, into `show_under`.
+fn sum_rows(w: &[[u8; 16]], times: usize) -> u32
+    requires { ⌜ length (now w) < 2 ^ 32 ⌝ }
+{
     let mut sum = work::mix_rows(0, w);
     let mut i = 1;
     while i < times {
@@ -268,7 +273,8 @@ fn show_sum(sum: u32) {
 fn under(operation: Operation, key: &[u8], times: usize)
     requires { ⌜ keyLength (length (now key)) ≡ true ⌝ }
 {
-    let rows = key_expansion::expand(key);
+    let table = sbox::byte_table();
+    let rows = key_expansion::expand(&table, key);
     let n = key.len() / 4 + 7;
     let w = &rows[..n];
     match operation {

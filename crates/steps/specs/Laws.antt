@@ -7,11 +7,9 @@ use Prim.Native.Nat.{ℕ, zero, suc, _+_, _-_, _<_}
 use native.Mathlib.Numerals.{add-one}
 use native.Mathlib.Omega.{arith}
 use lib.Dec.{eqb}
-use lib.ListN.{length}
 use borrow.Author.Tests.{ne-eqb, eq-eqb, eqb-true}
 use Rattle.octets.specs.Lists.{table}
 use Rattle.sha_padding.specs.Parsing.{blocks}
-use Rattle.sha_padding.specs.PaddingLaws.{blocks-count}
 use Rattle.work.specs.Steps.{hashBlock, counted}
 use Rattle.steps.specs.Made.{hashStep, hashSteps, kept}
 
@@ -38,10 +36,6 @@ table-next f n i h =
   where
     e : n - i ≡ suc (n - (i + 1))
     e = omega arith
-
--- a message of 32 bytes has one block
-pub blocks-one : (m : List ℕ) → length m ≡ 32 → blocks m ≡ 1
-blocks-one m h = omega (arith, blocks-count m)
 
 -- A search over places below n has found `first`, or n where nothing yet; `rest` is what it finds from the next place on. A turn at place i
 kept-cases : (n first i rest : ℕ) (hit b : Bool) → eqb first n ≡ b → i < n → cond (eqb (kept n first i hit) n) rest (kept n first i hit) ≡ cond (eqb first n) (cond hit i rest) first

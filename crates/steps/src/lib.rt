@@ -7,6 +7,7 @@ ghost use mathlib.Core.List.{[], _∷_};
 ghost use Prim.Native.Nat.{_/_};
 ghost use lib.ListN.{length};
 ghost use Rattle.work.specs.Steps.{comparison, expansion, hashBlock, mixedAll, sumFrom, counted};
+ghost use Rattle.sbox.specs.Rule.{sboxTable};
 ghost use Rattle.key_expansion.specs.KeyLength.{keyLength};
 ghost use Rattle.key_expansion.specs.Schedule.{fifteen};
 ghost use Rattle.sha_block.specs.Hash.{sha256};
@@ -49,11 +50,11 @@ pub fn round_keys(e: Expanded) -> [[u8; 16]; 15]
 }
 
 // Expands a key. The work sum has the round keys alone, not the zeros behind them.
-pub fn expand(key: &[u8], sum: u32) -> Expanded
-    requires { ⌜ keyLength (length (now key)) ≡ true ⌝ }
+pub fn expand(table: &[u8; 256], key: &[u8], sum: u32) -> Expanded
+    requires { ⌜ (now table ≡ sboxTable) × (keyLength (length (now key)) ≡ true) ⌝ }
     ensures { λ r. ⌜ r ≡ record { rows = fifteen (length (now (key .entry)) / 4) (now (key .entry)); count = counted expansion (expansionStep (now (key .entry)) ∷ []); sum = sumFrom sum (expansionStep (now (key .entry)) ∷ []) } ⌝ }
 {
-    let rows = key_expansion::expand(key);
+    let rows = key_expansion::expand(table, key);
     let n = key.len() / 4 + 7;
     let a = work::mix(sum, 4);
     let b = work::mix_all(a, key);

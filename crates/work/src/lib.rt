@@ -1,8 +1,8 @@
 // The work sum over a command's steps.
 ghost use mathlib.Core.Path.{_≡_};
 ghost use mathlib.Core.List.{flatten};
-ghost use Prim.Native.Nat.{_/_, _%_};
-ghost use lib.ListN.{drop};
+ghost use Prim.Native.Nat.{_/_, _%_, _^_, _<_};
+ghost use lib.ListN.{length, drop};
 ghost use Rattle.work.specs.Steps.{bytesOf, mixed, mixedAll};
 ghost use Rattle.work.specs.Weights.{weight, preparedOf, mixedPrepared};
 
@@ -96,10 +96,13 @@ pub struct Prepared {
     pub rest: u32,
 }
 
-// 257^n modulo 2^32.
+// 257^n modulo 2^32. That of sixteen bytes, the shortest key, is written out.
 fn weight_of(n: usize) -> u32
     ensures { λ r. ⌜ r ≡ weight n ⌝ }
 {
+    if n == 16 {
+        return 813174785;
+    }
     let mut w: u32 = 1;
     let mut k: usize = 0;
     while k < n {
@@ -134,14 +137,16 @@ pub fn mix_cipher(s: u32, kind: u8, key: Prepared, input: [u8; 16], output: [u8;
     mix_block(after_input, output)
 }
 
-// Round keys, an expansion's output: the rows one behind the other.
+// Round keys, an expansion's output: the rows one behind the other. They are counted in 32 bits, which a small processor has in one register.
 pub fn mix_rows(s: u32, rows: &[[u8; 16]]) -> u32
+    requires { ⌜ length (now rows) < 2 ^ 32 ⌝ }
     ensures { λ r. ⌜ r ≡ mixedAll s (flatten (now (rows .entry))) ⌝ }
 {
+    let n = rows.len() as u32;
     let mut sum = s;
-    let mut row = 0;
-    while row < rows.len() {
-        sum = mix_block(sum, rows[row]);
+    let mut row: u32 = 0;
+    while row < n {
+        sum = mix_block(sum, rows[row as usize]);
         row += 1;
     }
     sum

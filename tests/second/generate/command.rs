@@ -3,6 +3,7 @@
 use super::{id, size};
 use crate::card::{Card, final_keys};
 use crate::fault::Fault;
+use crate::keys;
 use crate::line::Line;
 use crate::padding::padded;
 use crate::random::Random;
@@ -20,25 +21,26 @@ pub fn call(random: &mut Random, card: &Card, earlier: &[Line]) -> Line {
     if random.percent(8) {
         damage(random, &mut command);
     }
-    Line::Call { command, fresh: fresh(random), out: size(random, 256) }
+    Line::Call { command, fresh: fresh(random, card.given.key_length), out: size(random, 256) }
 }
 
-/// 253 bytes whose last 203 are not zero.
-pub fn good_fresh(random: &mut Random) -> Vec<u8> {
+/// 253 bytes whose pad bytes are not zero.
+pub fn good_fresh(random: &mut Random, key_length: usize) -> Vec<u8> {
     let mut fresh = random.bytes(253);
-    fresh[50..].iter_mut().for_each(|b| *b = (*b).max(1));
+    fresh[keys::str1(key_length)..].iter_mut().for_each(|b| *b = (*b).max(1));
     fresh
 }
 
-fn fresh(random: &mut Random) -> Vec<u8> {
-    let mut fresh = good_fresh(random);
+fn fresh(random: &mut Random, key_length: usize) -> Vec<u8> {
+    let mut fresh = good_fresh(random, key_length);
+    let pads = keys::str1(key_length);
     match random.below(40) {
-        0 => fresh.truncate(random.edge(&[0, 49, 50, 252], 0, 252)),
+        0 => fresh.truncate(random.edge(&[0, pads - 1, pads, 252], 0, 252)),
         1 => fresh.resize(random.edge(&[254, 300], 254, 300), 1),
-        2 | 3 => fresh[random.edge(&[50, 252], 50, 252)] = 0,
+        2 | 3 => fresh[random.edge(&[pads, 252], pads, 252)] = 0,
         // Zeros in F are as good as any other byte.
-        4 => fresh[random.edge(&[0, 15, 16, 49], 0, 49)] = 0,
-        5 => fresh[..50].fill(0),
+        4 => fresh[random.edge(&[0, key_length - 1, key_length, pads - 1], 0, pads - 1)] = 0,
+        5 => fresh[..pads].fill(0),
         _ => {}
     }
     fresh
@@ -203,9 +205,10 @@ fn change(data: &mut [u8], at: usize, to: u8) {
 fn final_command(random: &mut Random, card: &Card) -> Vec<u8> {
     let (fa_key, rnd1) = final_keys(card);
     let mode = if random.percent(92) { random.pick(&card.given.modes).id } else { id(random) };
-    let of = Sealing { fa_key, div_data: card.given.div_data, rnd1, rnd2: random.block(), mode };
-    let text = final_text(random, of);
-    let mut data = final_data(&fa_key, &card.given.div_data, &text);
+    let (key_length, div_data) = (card.given.key_length, card.given.div_data);
+    let of = Sealing { key_length, fa_key, div_data, rnd1, rnd2: random.bytes(key_length), mode };
+    let text = final_text(random, of.clone());
+    let mut data = final_data(&of, &text, Fault::None);
     match random.below(20) {
         0 => data.extend(random.some_bytes(1, 15)),
         1 => random.flip(&mut data),
@@ -220,12 +223,13 @@ fn final_command(random: &mut Random, card: &Card) -> Vec<u8> {
 
 /// STR2 with its padding, whole blocks; sometimes damaged before it is enciphered.
 fn final_text(random: &mut Random, of: Sealing) -> Vec<u8> {
-    let payload = random.edge(&[0, 0, 13, 14, 30, 205], 0, 205);
-    let mut text = str2(&of, &random.bytes(payload));
+    let (length, most) = (of.key_length, keys::most_payload(of.key_length));
+    let payload = random.edge(&[0, 0, 13, 14, 30, most], 0, most);
+    let mut text = str2(&of, &random.bytes(payload), Fault::None);
     match random.below(24) {
-        0 => random.flip(&mut text[18 + payload..]),
+        0 => random.flip(&mut text[2 + length + payload..]),
         1 => random.flip(&mut text),
-        2 => text.truncate(random.edge(&[0, 16, 17, 18, 32, 33], 0, 33)),
+        2 => text.truncate(random.edge(&[0, 16, length + 1, length + 2, 2 * length, 2 * length + 1], 0, 2 * length + 1)),
         3 => text = just_too_short(random, of),
         4 | 5 => return badly_padded(random, text),
         _ => {}
@@ -233,16 +237,16 @@ fn final_text(random: &mut Random, of: Sealing) -> Vec<u8> {
     padded(&text, Fault::None)
 }
 
-/// 33 bytes that end in their own KeysHash: its first byte is RND2's last, so that only the length is wrong.
+/// 1 + 2L bytes that end in their own KeysHash: its first byte is RND2's last, so that only the length is wrong.
 fn just_too_short(random: &mut Random, mut of: Sealing) -> Vec<u8> {
     for _ in 0..2000 {
-        of.rnd2 = random.block();
-        if keys_hash(&of.rnd1, &of.rnd2)[0] == of.rnd2[15] {
+        of.rnd2 = random.bytes(of.key_length);
+        if keys_hash(&of, Fault::None).first() == of.rnd2.last() {
             break;
         }
     }
-    let mut text = str2(&of, &[]);
-    text.remove(17);
+    let mut text = str2(&of, &[], Fault::None);
+    text.remove(1 + of.key_length);
     text
 }
 

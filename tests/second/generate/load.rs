@@ -1,22 +1,23 @@
 //! Loads, right and wrong.
 
-use super::distinct_ids;
+use super::{distinct_ids, key_length, off_value};
 use crate::card::{Given, KeySet, Mode};
+use crate::keys::LENGTHS;
 use crate::random::Random;
 
 /// A load that is accepted.
 pub fn good(random: &mut Random) -> Given {
-    let shill_handle = random.byte();
+    let (key_length, shill_handle) = (random.pick(&LENGTHS), random.byte());
     let set_count = random.edge(&[1, 2, 8], 1, 8);
     let mode_count = random.edge(&[1, 2, 16], 1, 16);
-    let sets = sets(random, set_count, shill_handle);
+    let sets = sets(random, set_count, key_length, shill_handle);
     let lengths = lengths(random, mode_count);
     let longest = lengths.iter().copied().max().unwrap_or(0);
     let area = random.edge(&[longest, 1023, 1024], longest, 300);
     let modes = distinct_ids(random, mode_count).into_iter().zip(lengths);
     let modes = modes.map(|(id, len)| Mode { id, start: random.edge(&[0, area - len], 0, area - len), len }).collect();
-    let [div_data, shill_key] = [random.block(), random.block()];
-    Given { sets, modes, area: random.bytes(area), div_data, shill_key, shill_handle }
+    let (div_data, shill_key) = (random.block(), random.bytes(key_length));
+    Given { key_length, sets, modes, area: random.bytes(area), div_data, shill_key, shill_handle }
 }
 
 /// So many records' lengths. One of them, at any place, needs the chosen B, which is 2 to 6 alike: from 1 to 15 bytes, from 16 to 31, and so
@@ -32,19 +33,20 @@ fn lengths(random: &mut Random, count: usize) -> Vec<usize> {
 }
 
 /// So many key sets, none with the shill handle.
-fn sets(random: &mut Random, count: usize, shill_handle: u8) -> Vec<KeySet> {
+fn sets(random: &mut Random, count: usize, key_length: usize, shill_handle: u8) -> Vec<KeySet> {
     let ids = distinct_ids(random, count).into_iter();
-    ids.map(|id| KeySet { id, handle: shill_handle.wrapping_add(random.between(1, 255) as u8), fa_key: random.block() }).collect()
+    let handle = |random: &mut Random| shill_handle.wrapping_add(random.between(1, 255) as u8);
+    ids.map(|id| KeySet { id, handle: handle(random), fa_key: random.bytes(key_length.min(255)) }).collect()
 }
 
 /// A load that may be wrong in one way or in several.
 pub fn any(random: &mut Random) -> Given {
     let mut given = good(random);
     for _ in 0..random.pick(&[0, 1, 1, 1, 1, 2, 3]) {
-        match random.below(9) {
+        match random.below(12) {
             0 => {
                 let count = random.edge(&[0, 8, 9], 0, 20);
-                given.sets = sets(random, count, given.shill_handle);
+                given.sets = sets(random, count, given.key_length, given.shill_handle);
             }
             1 => repeat(random, &mut given.sets, |to, from| to.id = from.id),
             2 => repeat(random, &mut given.sets, |to, from| to.handle = from.handle),
@@ -56,6 +58,9 @@ pub fn any(random: &mut Random) -> Given {
                 let area = random.edge(&[0, 1, 1024, 1025], 0, 1030);
                 given.area = random.bytes(area);
             }
+            8 => given.key_length = key_length(random),
+            9 => change(random, &mut given.sets, |random, set| set.fa_key = off_value(random, given.key_length)),
+            10 => given.shill_key = off_value(random, given.key_length),
             _ => change(random, &mut given.modes, |random, mode| mode.start = outer_start(random, given.area.len(), mode.len)),
         }
     }
@@ -84,7 +89,7 @@ fn change<T>(random: &mut Random, items: &mut [T], how: impl Fn(&mut Random, &mu
 }
 
 /// Makes one item like another in one respect; it may meet itself.
-fn repeat<T: Copy>(random: &mut Random, items: &mut [T], alike: impl Fn(&mut T, &T)) {
+fn repeat<T: Clone>(random: &mut Random, items: &mut [T], alike: impl Fn(&mut T, &T)) {
     if !items.is_empty() {
         let from = random.pick(items);
         change(random, items, |_, to| alike(to, &from));

@@ -1,8 +1,9 @@
 //! Calls of the reader: List, Open, Seal, Accept.
 
-use super::{command, distinct_ids, id, size};
+use super::{command, distinct_ids, id, key_length, size, value};
 use crate::aes::Block;
 use crate::fault::Fault;
+use crate::keys::{self, LENGTHS};
 use crate::line::Line;
 use crate::padding::padded;
 use crate::random::Random;
@@ -18,23 +19,27 @@ pub fn list(random: &mut Random) -> Line {
 }
 
 /// The block of a card that holds this set.
-pub fn card_block(random: &mut Random, id: u16, div_data: &Block, rnd1: &Block) -> Vec<u8> {
-    let pad = &command::good_fresh(random)[50..];
-    [&[0, 2], pad, &[0], &id.to_be_bytes(), div_data, rnd1, rnd1].concat()
+pub fn card_block(random: &mut Random, key_length: usize, id: u16) -> Vec<u8> {
+    let fresh = command::good_fresh(random, key_length);
+    let (div_data, rnd1) = (random.block(), &fresh[..key_length]);
+    let pads = &fresh[keys::str1(key_length)..];
+    [&[0, 2], pads, &[0], &id.to_be_bytes(), &div_data, rnd1, rnd1].concat()
 }
 
-/// What a decryption may give for an entry: a good block, a damaged one, a stranger's, or random bytes.
-fn block(random: &mut Random, entry: u16) -> Vec<u8> {
+/// What a decryption may give for an entry: a good block, a damaged one, a stranger's, one with keys of another length, or random bytes.
+fn block(random: &mut Random, key_length: usize, entry: u16) -> Vec<u8> {
     let owner = if random.percent(15) { id(random) } else { entry };
-    let [div_data, rnd1] = [random.block(), random.block()];
-    let mut block = card_block(random, owner, &div_data, &rnd1);
+    let length = if random.percent(5) || !LENGTHS.contains(&key_length) { random.pick(&LENGTHS) } else { key_length };
+    let mut block = card_block(random, length, owner);
+    // The places of the zero byte and STR1.
+    let (zero, last) = (2 + keys::pads(length), 3 + keys::pads(length));
     match random.below(12) {
-        0 => block[random.pick(&[0, 1, 205])] = random.pick(&[0, 1, 2, 0xff]),
-        1 => block[random.edge(&[2, 204], 2, 204)] = 0,
-        2 => random.flip(&mut block[206..208]),
-        3 => random.flip(&mut block[224..]),
+        0 => block[random.pick(&[0, 1, zero])] = random.pick(&[0, 1, 2, 0xff]),
+        1 => block[random.edge(&[2, zero - 1], 2, zero - 1)] = 0,
+        2 => random.flip(&mut block[last..last + 2]),
+        3 => random.flip(&mut block[last + 18..]),
         4 => random.flip(&mut block),
-        5 => block[206..].copy_from_slice(&random.bytes(50)),
+        5 => random.fill(&mut block[last..]),
         6 | 7 => {}
         _ => random.fill(&mut block),
     }
@@ -42,32 +47,33 @@ fn block(random: &mut Random, entry: u16) -> Vec<u8> {
 }
 
 pub fn open(random: &mut Random) -> Line {
-    let count = random.edge(&[1, 2, 3, 16], 0, 20);
+    let (key_length, count) = (key_length(random), random.edge(&[1, 2, 3, 16], 0, 20));
     let ids: Vec<u16> = (0..count).map(|_| id(random)).collect();
-    let mut blocks: Vec<u8> = ids.iter().flat_map(|id| block(random, *id)).collect();
+    let mut blocks: Vec<u8> = ids.iter().flat_map(|id| block(random, key_length, *id)).collect();
     let off = random.pick(&[1, 255, 256]);
     match random.below(20) {
         0 => blocks.truncate(blocks.len().saturating_sub(off)),
         1 => blocks.extend(random.bytes(off)),
         _ => {}
     }
-    Line::Open { ids, blocks }
+    Line::Open { key_length, ids, blocks }
 }
 
-pub fn sealing(random: &mut Random) -> Sealing {
-    let [fa_key, div_data, rnd1, rnd2] = [random.block(), random.block(), random.block(), random.block()];
-    Sealing { fa_key, div_data, rnd1, rnd2, mode: id(random) }
-}
-
-pub fn payload(random: &mut Random) -> Vec<u8> {
-    let length = random.edge(&[0, 13, 14, 29, 30, 205, 206], 0, 210);
+/// A payload for one of the three lengths, or a little over its limit.
+pub fn payload(random: &mut Random, key_length: usize) -> Vec<u8> {
+    let most = keys::most_payload(key_length);
+    let length = random.edge(&[0, 13, 14, 29, 30, most, most + 1, 205, 206], 0, most + 5);
     random.bytes(length)
 }
 
 pub fn seal(random: &mut Random) -> Line {
-    let payload = payload(random);
-    let lc = (34 + payload.len()) / 16 * 16 + 16;
-    Line::Seal { of: sealing(random), payload, out: size(random, lc + 6) }
+    let key_length = key_length(random);
+    let [fa_key, rnd1, rnd2] = [(); 3].map(|()| value(random, key_length));
+    let of = Sealing { key_length, fa_key, div_data: random.block(), rnd1, rnd2, mode: id(random) };
+    let length = if LENGTHS.contains(&key_length) { key_length } else { random.pick(&LENGTHS) };
+    let payload = payload(random, length);
+    let lc = (keys::least_text(length) + payload.len()) / 16 * 16 + 16;
+    Line::Seal { of, payload, out: size(random, lc + 6) }
 }
 
 /// A record length for a body: mostly one that it has room for, else one about its end, none, or one that a narrower number would cut
@@ -107,10 +113,12 @@ fn response_text(random: &mut Random, div_data: &Block, body: usize, record: usi
 }
 
 pub fn accept(random: &mut Random) -> Line {
-    let [keys_hash, div_data] = [random.block(), random.block()];
+    let key_length = key_length(random);
+    let (keys_hash, div_data) = (value(random, key_length), random.block());
     let body = if random.percent(50) { random.between(1, 64) } else { random.edge(&[0, 1, 15, 16, 63, 64, 65, 79], 0, 79) };
     let record_length = record_length(random, body);
-    let mut response = enciphered(&keys_hash, &response_text(random, &div_data, body, record_length));
+    let key = if LENGTHS.contains(&keys_hash.len()) { keys_hash.clone() } else { random.bytes(16) };
+    let mut response = enciphered(&key, &response_text(random, &div_data, body, record_length));
     match random.below(12) {
         0 => random.flip(&mut response),
         1 => response.truncate(random.between(0, response.len())),
@@ -118,5 +126,5 @@ pub fn accept(random: &mut Random) -> Line {
         _ => {}
     }
     let work = size(random, response.len());
-    Line::Accept { of: Accepting { keys_hash, div_data, record_length }, work: random.bytes(work), response }
+    Line::Accept { of: Accepting { key_length, keys_hash, div_data, record_length }, work: random.bytes(work), response }
 }

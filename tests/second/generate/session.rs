@@ -1,12 +1,13 @@
 //! Whole sessions: load, List, initial command, Open, Seal, final command, Accept. The platform's RSA is played by handing the card's
 //! block to the entry whose set made it, and other bytes to the others.
 
-use super::{Case, command, distinct_ids, follow, id, load, reader};
+use super::{Case, command, distinct_ids, follow, id, key_length, load, reader};
 use crate::card::{self, Card, Mode, filled};
 use crate::fault::Fault;
+use crate::keys::most_payload;
 use crate::line::Line;
 use crate::random::Random;
-use crate::reader::{Accepting, Sealing, framed, id_list, keys_hash, open, seal};
+use crate::reader::{Accepting, Sealing, framed, id_list, open, seal};
 
 struct Play<'a> {
     random: &'a mut Random,
@@ -33,13 +34,28 @@ impl Play<'_> {
         let block = self.command(framed(0x87, &id_list(&ids)));
         let winner = ids.iter().position(|id| self.card.session.as_ref().is_some_and(|s| s.id == *id));
         let blocks = self.decrypted(&ids, winner, &block);
-        self.lines.push(Line::Open { ids: ids.clone(), blocks: blocks.clone() });
-        let opened = open(&ids, &blocks).ok()?;
+        let key_length = self.key_length(self.card.given.key_length);
+        self.lines.push(Line::Open { key_length, ids: ids.clone(), blocks: blocks.clone() });
+        let opened = open(key_length, &ids, &blocks).ok()?;
         let set = self.card.given.sets.iter().find(|s| s.id == opened.id);
-        let fa_key = set.map_or([0; 16], |s| s.fa_key);
+        let fa_key = set.map_or(vec![0; key_length], |s| s.fa_key.clone());
         self.disturb();
-        let of = Sealing { fa_key, div_data: opened.div_data, rnd1: opened.rnd1, ..reader::sealing(self.random) };
-        self.finish(of)
+        let (rnd2, mode) = (self.random.bytes(key_length), id(self.random));
+        self.finish(Sealing { key_length, fa_key, div_data: opened.div_data, rnd1: opened.rnd1, rnd2, mode })
+    }
+
+    /// The reader's key length: mostly this one, as the promise needs it.
+    fn key_length(&mut self, right: usize) -> usize {
+        let given = if self.random.percent(96) { right } else { key_length(self.random) };
+        self.promised &= given == right;
+        given
+    }
+
+    /// Makes values that the reader has fit its key length, or leaves them as they are.
+    fn fit(&mut self, values: &mut [&mut Vec<u8>], key_length: usize) {
+        if self.random.percent(60) {
+            values.iter_mut().for_each(|value| value.resize(key_length.min(40), 0));
+        }
     }
 
     /// KeySetIDs of which the card mostly holds one.
@@ -55,7 +71,8 @@ impl Play<'_> {
 
     /// Hands the card a command and gives its answer.
     fn command(&mut self, command: Vec<u8>) -> Vec<u8> {
-        let call = Line::Call { command, fresh: command::good_fresh(self.random), out: 256 + self.random.below(3) };
+        let fresh = command::good_fresh(self.random, self.card.given.key_length);
+        let call = Line::Call { command, fresh, out: 256 + self.random.below(3) };
         let answer = follow(&mut self.card, &call);
         self.lines.push(call);
         answer
@@ -66,14 +83,14 @@ impl Play<'_> {
     fn decrypted(&mut self, ids: &[u16], winner: Option<usize>, block: &[u8]) -> Vec<u8> {
         let mut blocks = Vec::new();
         for (place, entry) in ids.iter().enumerate() {
-            let [div_data, rnd1] = [self.random.block(), self.random.block()];
+            let length = self.card.given.key_length;
             match self.random.below(40) {
                 _ if winner == Some(place) => blocks.extend(block),
                 0 => {
                     self.promised &= winner.is_some_and(|w| w < place);
-                    blocks.extend(reader::card_block(self.random, *entry, &div_data, &rnd1));
+                    blocks.extend(reader::card_block(self.random, length, *entry));
                 }
-                1..8 => blocks.extend(reader::card_block(self.random, entry.wrapping_add(1), &div_data, &rnd1)),
+                1..8 => blocks.extend(reader::card_block(self.random, length, entry.wrapping_add(1))),
                 _ => blocks.extend(self.random.bytes(256)),
             }
         }
@@ -98,11 +115,15 @@ impl Play<'_> {
             self.promised = false;
             self.random.flip(&mut of.fa_key);
         }
-        let mut payload = reader::payload(self.random);
-        payload.truncate(205);
+        of.key_length = self.key_length(of.key_length);
+        self.fit(&mut [&mut of.fa_key, &mut of.rnd1, &mut of.rnd2], of.key_length);
+        let mut payload = reader::payload(self.random, self.card.given.key_length);
+        payload.truncate(most_payload(self.card.given.key_length));
         let mut out = vec![0; 246];
-        let (length, _) = seal(&of, &payload, &mut out, Fault::None).ok()?;
-        self.lines.push(Line::Seal { of: of.clone(), payload, out: length + self.random.below(3) });
+        let sealed = seal(&of, &payload, &mut out, Fault::None).ok();
+        let room = sealed.as_ref().map_or(246, |(length, _)| length + self.random.below(3));
+        self.lines.push(Line::Seal { of: of.clone(), payload, out: room });
+        let (length, mut keys_hash) = sealed?;
         let mut response = self.command(out[..length].to_vec());
         if self.random.percent(4) {
             self.promised = false;
@@ -110,7 +131,9 @@ impl Play<'_> {
         }
         let work = self.random.bytes(response.len());
         let record_length = self.record_length(mode);
-        let of = Accepting { keys_hash: keys_hash(&of.rnd1, &of.rnd2), div_data: of.div_data, record_length };
+        let key_length = self.key_length(of.key_length);
+        self.fit(&mut [&mut keys_hash], key_length);
+        let of = Accepting { key_length, keys_hash, div_data: of.div_data, record_length };
         self.lines.push(Line::Accept { of, response, work });
         mode.map(|m| self.card.given.area[m.start..m.start + m.len].to_vec())
     }

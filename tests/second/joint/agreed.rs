@@ -3,6 +3,7 @@
 use crate::aes::Block;
 use crate::card::{self, Card, Given};
 use crate::fault::Fault;
+use crate::inputs::KEY_LENGTH;
 use crate::reader::{self, Accepting, Sealing};
 
 pub struct Agreed(Card);
@@ -34,15 +35,15 @@ impl Agreed {
 
     /// One decrypted block for each entry, in order.
     pub fn opens(ids: &[u16], blocks: &[u8], id: u16, div_data: &Block, rnd1: &Block) {
-        let opened = reader::open(ids, blocks).unwrap_or_default();
-        assert!((opened.id, opened.div_data, opened.rnd1) == (id, *div_data, *rnd1), "Open");
+        let opened = reader::open(KEY_LENGTH, ids, blocks).unwrap_or_default();
+        assert!((opened.id, opened.div_data, &opened.rnd1[..]) == (id, *div_data, &rnd1[..]), "Open");
         assert!(ids[opened.place] == id, "Open's place");
     }
 
     pub fn seals(of: &Sealing, payload: &[u8], hash: &Block, want: &[u8]) {
         let mut out = [0; 246];
         let sealed = reader::seal(of, payload, &mut out, Fault::None).unwrap_or_default();
-        assert!(sealed == (want.len(), *hash) && out[..want.len()] == *want, "Seal");
+        assert!(sealed == (want.len(), hash.to_vec()) && out[..want.len()] == *want, "Seal");
     }
 
     pub fn accepts(of: &Accepting, response: &[u8], record: &[u8]) {

@@ -5,6 +5,9 @@ use crate::card::{Given, KeySet, Mode};
 
 const KEYS: &str = include_str!("../joint-keys.txt");
 
+/// L: that of every key, RND and KeysHash here.
+pub const KEY_LENGTH: usize = 16;
+
 /// The card's platform names RSA keys by one byte. These two are on no wire.
 const IA_HANDLE: u8 = 0x11;
 const SHILL_HANDLE: u8 = 0x99;
@@ -69,9 +72,10 @@ fn keys() -> Vec<(String, Vec<u8>)> {
 fn load() -> Given {
     let role = b"ROLE=protection engineer";
     Given {
+        key_length: KEY_LENGTH,
         sets: vec![
-            KeySet { id: 1, handle: IA_HANDLE, fa_key: block(0xa0) },
-            KeySet { id: 4, handle: IA_HANDLE, fa_key: block(0xb0) },
+            KeySet { id: 1, handle: IA_HANDLE, fa_key: block(0xa0).to_vec() },
+            KeySet { id: 4, handle: IA_HANDLE, fa_key: block(0xb0).to_vec() },
         ],
         modes: vec![
             Mode { id: 2, start: 0, len: WIEGAND.len() },
@@ -80,7 +84,7 @@ fn load() -> Given {
         ],
         area: [&WIEGAND[..], &UUID, role].concat(),
         div_data: block(0x10),
-        shill_key: block(0xc0),
+        shill_key: block(0xc0).to_vec(),
         shill_handle: SHILL_HANDLE,
     }
 }

@@ -4,7 +4,7 @@ use crate::aes::{self, Block};
 use crate::agreed::Agreed;
 use crate::card::KeySet;
 use crate::fault::Fault;
-use crate::inputs::{Inputs, Session};
+use crate::inputs::{Inputs, KEY_LENGTH, Session};
 use crate::padding::padded;
 use crate::page::Page;
 use crate::reader::{Accepting, Sealing, enciphered, framed, id_list};
@@ -95,7 +95,8 @@ fn final_command(page: &mut Page, inputs: &Inputs, of: &Session) -> (Block, Vec<
     page.value("eSTR2", "AESEncrypt, key FAKey(DIV), CBC, of STR2 padded", &data);
     let command = framed(0x86, &data);
     page.value("FA command", "00 86 00 00 Lc eSTR2 00", &command);
-    let sealing = Sealing { fa_key: set.fa_key, div_data: inputs.load.div_data, rnd1: of.rnd1, rnd2: of.rnd2, mode: of.mode };
+    let (fa_key, rnd1, rnd2) = (set.fa_key.clone(), of.rnd1.to_vec(), of.rnd2.to_vec());
+    let sealing = Sealing { key_length: KEY_LENGTH, fa_key, div_data: inputs.load.div_data, rnd1, rnd2, mode: of.mode };
     Agreed::seals(&sealing, &of.payload, &hash, &command);
     (hash, command)
 }
@@ -126,6 +127,7 @@ pub fn write(page: &mut Page, inputs: &Inputs, of: &Session, agreed: &mut Agreed
     agreed.answers(&command, &[], &of.ps, &answer, 0);
     page.note("Step 8 (6.8): the reader deciphers STR3 padded, finds its DivData there,\n# and takes ACSRecord, the first bytes.");
     let record = record(inputs, of.mode);
-    let accepting = Accepting { keys_hash: hash, div_data: inputs.load.div_data, record_length: record.len() };
+    let (keys_hash, div_data) = (hash.to_vec(), inputs.load.div_data);
+    let accepting = Accepting { key_length: KEY_LENGTH, keys_hash, div_data, record_length: record.len() };
     Agreed::accepts(&accepting, &answer, record);
 }

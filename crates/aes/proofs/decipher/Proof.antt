@@ -12,13 +12,10 @@ use Rattle.aes.proofs.decipher.Statement.{statement}
 use Rattle.aes.proofs.decipher.Tie as tie
 
 abbrev Inv-loop : tie.InvT-loop
-Inv-loop w table last t₀ i₀ t i = (1 ≤ i) × (i ≤ last) × (invRounds w (i - 1) (stateOf t) ≡ invRounds w (last - 1) (stateOf t₀))
+Inv-loop table w last t₀ i₀ t i = (1 ≤ i) × (i ≤ last) × (invRounds w (i - 1) (stateOf t) ≡ invRounds w (last - 1) (stateOf t₀))
 
 abbrev μ-loop : tie.MeasureT-loop
-μ-loop w table last t₀ i₀ t i = i
-
-inv-byte-table-requires : tie.Need-inv-byte-table-requires Inv-loop μ-loop
-inv-byte-table-requires c κs = search needs
+μ-loop table w last t₀ i₀ t i = i
 
 sub-last : tie.Need-sub-last Inv-loop μ-loop
 sub-last c = search needs
@@ -48,7 +45,7 @@ shared-slice-copy-out-inv-round : tie.Need-shared-slice-copy-out-inv-round Inv-l
 shared-slice-copy-out-inv-round c = search needs
 
 inv-round-requires : tie.Need-inv-round-requires Inv-loop μ-loop
-inv-round-requires c κs = c .before .before .before .before .before .before .before .inv-byte-table .ensures
+inv-round-requires c κs = c .before .before .before .before .before .before .pre .0
 
 loop-less : tie.Need-loop-less Inv-loop μ-loop
 loop-less c = search needs
@@ -56,8 +53,8 @@ loop-less c = search needs
 loop-again : tie.Need-loop-again Inv-loop μ-loop
 unfolding invRounds
 loop-again c =
-    let l = c .before .before .before .before .loop in
-    let w = c .before .before .before .before .before .before .before .before .before .args .w .now in
+    let l = c .before .before .before .loop in
+    let w = c .before .before .before .before .before .before .before .args .w .now in
     let e : l .i - 1 ≡ suc (l .i - 1 - 1) = omega arith in (
       omega arith,
       omega arith,
@@ -70,7 +67,7 @@ shared-slice-copy-out-inv-last-round : tie.Need-shared-slice-copy-out-inv-last-r
 shared-slice-copy-out-inv-last-round c = search needs
 
 inv-last-round-requires : tie.Need-inv-last-round-requires Inv-loop μ-loop
-inv-last-round-requires c κs = c .before .before .before .before .before .before .before .inv-byte-table .ensures
+inv-last-round-requires c κs = c .before .before .before .before .before .before .pre .0
 
 bytes-of-requires : tie.Need-bytes-of-requires Inv-loop μ-loop
 bytes-of-requires c κs = search needs
@@ -78,11 +75,11 @@ bytes-of-requires c κs = search needs
 returns : tie.Need-returns Inv-loop μ-loop
 unfolding invCipher invRounds
 returns c =
-    let w = c .before .before .before .before .before .before .before .before .before .before .args .w .now in
-    let l = c .before .before .before .before .before .loop in
-    let a = c .before .before .before .before .before .before in
+    let w = c .before .before .before .before .before .before .before .before .args .w .now in
+    let l = c .before .before .before .before .loop in
+    let a = c .before .before .before .before .before in
     let none : 0 ≡ l .i - 1 = omega arith in
-    let first : stateOf (a .add-round-key .result) ≡ addRoundKey (c .before .before .before .before .before .before .before .before .before .before .args .s) (getD w (length w - 1) []) =
+    let first : stateOf (a .add-round-key .result) ≡ addRoundKey (c .before .before .before .before .before .before .before .before .args .s) (getD w (length w - 1) []) =
     a .add-round-key .ensures ∙ ap (λ (x : List ℕ). addRoundKey x (getD w (length w - 1) [])) (a .before .before .columns-of .ensures) in
     c .bytes-of .ensures
     ∙ c .before .inv-last-round .ensures
@@ -95,7 +92,6 @@ decipher-spec =
     (tie.spec
     Inv-loop
     μ-loop
-    inv-byte-table-requires
     sub-last
     columns-of-requires
     mul-add-round-key

@@ -11,13 +11,10 @@ use Rattle.aes.proofs.encipher.Statement.{statement}
 use Rattle.aes.proofs.encipher.Tie as tie
 
 abbrev Inv-loop : tie.InvT-loop
-Inv-loop w table last t₀ i₀ t i = (1 ≤ i) × (i ≤ last) × (stateOf t ≡ rounds w (i - 1) (stateOf t₀))
+Inv-loop table w last t₀ i₀ t i = (1 ≤ i) × (i ≤ last) × (stateOf t ≡ rounds w (i - 1) (stateOf t₀))
 
 abbrev μ-loop : tie.MeasureT-loop
-μ-loop w table last t₀ i₀ t i = last - i
-
-byte-table-requires : tie.Need-byte-table-requires Inv-loop μ-loop
-byte-table-requires c κs = search needs
+μ-loop table w last t₀ i₀ t i = last - i
 
 sub-last : tie.Need-sub-last Inv-loop μ-loop
 sub-last c = search needs
@@ -42,7 +39,7 @@ shared-slice-copy-out-round : tie.Need-shared-slice-copy-out-round Inv-loop μ-l
 shared-slice-copy-out-round c = search needs
 
 round-requires : tie.Need-round-requires Inv-loop μ-loop
-round-requires c κs = c .before .before .before .before .before .before .before .byte-table .ensures
+round-requires c κs = c .before .before .before .before .before .before .pre .0
 
 add-i : tie.Need-add-i Inv-loop μ-loop
 add-i c = search needs
@@ -53,9 +50,9 @@ loop-less c = search needs
 loop-again : tie.Need-loop-again Inv-loop μ-loop
 unfolding rounds
 loop-again c =
-    let l = c .before .before .before .before .loop in
-    let w = c .before .before .before .before .before .before .before .before .before .args .w .now in
-    let z = stateOf (c .before .before .before .before .before .add-round-key .result) in
+    let l = c .before .before .before .loop in
+    let w = c .before .before .before .before .before .before .before .args .w .now in
+    let z = stateOf (c .before .before .before .before .add-round-key .result) in
     let e : l .i ≡ suc (l .i - 1) = omega arith in
     let f : suc (l .i - 1) ≡ l .i + 1 - 1 = omega arith in (
       omega arith,
@@ -73,7 +70,7 @@ shared-slice-copy-out-last-round : tie.Need-shared-slice-copy-out-last-round Inv
 shared-slice-copy-out-last-round c = search needs
 
 last-round-requires : tie.Need-last-round-requires Inv-loop μ-loop
-last-round-requires c κs = c .before .before .before .before .before .before .before .byte-table .ensures
+last-round-requires c κs = c .before .before .before .before .before .before .pre .0
 
 bytes-of-requires : tie.Need-bytes-of-requires Inv-loop μ-loop
 bytes-of-requires c κs = search needs
@@ -81,11 +78,11 @@ bytes-of-requires c κs = search needs
 returns : tie.Need-returns Inv-loop μ-loop
 unfolding cipher
 returns c =
-    let w = c .before .before .before .before .before .before .before .before .before .before .args .w .now in
-    let l = c .before .before .before .before .before .loop in
-    let a = c .before .before .before .before .before .before in
+    let w = c .before .before .before .before .before .before .before .before .args .w .now in
+    let l = c .before .before .before .before .loop in
+    let a = c .before .before .before .before .before in
     let all : l .i ≡ length w - 1 = omega arith in
-    let first : stateOf (a .add-round-key .result) ≡ addRoundKey (c .before .before .before .before .before .before .before .before .before .before .args .s) (getD w 0 []) =
+    let first : stateOf (a .add-round-key .result) ≡ addRoundKey (c .before .before .before .before .before .before .before .before .args .s) (getD w 0 []) =
     a .add-round-key .ensures ∙ ap (λ (x : List ℕ). addRoundKey x (getD w 0 [])) (a .before .before .columns-of .ensures) in
     c .bytes-of .ensures
     ∙ c .before .last-round .ensures
@@ -98,7 +95,6 @@ encipher-spec =
     (tie.spec
     Inv-loop
     μ-loop
-    byte-table-requires
     sub-last
     columns-of-requires
     shared-slice-copy-out-add-round-key

@@ -18,14 +18,17 @@ use Rattle.cbc.proofs.decipher.Statement.{statement}
 use Rattle.cbc.proofs.decipher.Tie as tie
 
 abbrev Inv-loop : tie.InvT-loop
-Inv-loop key w text₀ sum blocks shown previous₀ count₀ after₀ text previous count after =
+Inv-loop key w text₀ sum blocks table shown previous₀ count₀ after₀ text previous count after =
     (length text ≡ length text₀)
     × (count ≤ blocks)
     × (take (16 * count) text ++ whole (unlink (invCipherBy w)) taken previous (drop (16 * count) text) ≡ whole (unlink (invCipherBy w)) taken previous₀ text₀)
     × (sumFrom after (deciphered key (invCipherBy w) (blocks - count) (drop (16 * count) text)) ≡ sumFrom sum (deciphered key (invCipherBy w) blocks text₀))
 
 abbrev μ-loop : tie.MeasureT-loop
-μ-loop key w text₀ sum blocks shown previous₀ count₀ after₀ text previous count after = blocks - count
+μ-loop key w text₀ sum blocks table shown previous₀ count₀ after₀ text previous count after = blocks - count
+
+inv-byte-table-requires : tie.Need-inv-byte-table-requires Inv-loop μ-loop
+inv-byte-table-requires c κs = search needs
 
 prepare-requires : tie.Need-prepare-requires Inv-loop μ-loop
 prepare-requires c κs = search needs
@@ -40,7 +43,7 @@ block-at-requires : tie.Need-block-at-requires Inv-loop μ-loop
 block-at-requires c κs = search needs
 
 decipher-block-requires : tie.Need-decipher-block-requires Inv-loop μ-loop
-decipher-block-requires c κs = search needs
+decipher-block-requires c κs = (c .before .before .before .before .before .before .inv-byte-table .ensures, search needs, search needs)
 
 slice-aggregate-copy-at : tie.Need-slice-aggregate-copy-at Inv-loop μ-loop
 slice-aggregate-copy-at c = search needs
@@ -57,13 +60,13 @@ loop-less c = search needs
 loop-again : tie.Need-loop-again Inv-loop μ-loop
 loop-again c =
     let b = c .before .before .before .before .before .before in
-    let l = b .before .before .before .before in
+    let l = b .before .before .before .before .before in
     let q = l .loop .inv in
-    let a = l .before .before .before .before .args in
+    let a = l .before .before .before .before .before .args in
     let f = invCipherBy (a .w .now) in
-    let summed = prepared-step (l .loop .after) (decipherStep (a .key .now) f (b .before .block-at .result)) (l .before .prepare .ensures) in
+    let summed = prepared-step (l .loop .after) (decipherStep (a .key .now) f (b .before .before .block-at .result)) (l .before .prepare .ensures) in
     let step = b .decipher-block in
-    let x = b .before .block-at .ensures in
+    let x = b .before .before .block-at .ensures in
     let y = step .ensures .0 ∙ ap (λ z. f z ⊕ l .loop .previous) x in
     let long : length (step .result .block) ≡ 16 = search (needs, step .ok) in
     let text = l .loop .text in
@@ -75,7 +78,7 @@ loop-again c =
       omega arith,
       omega arith,
       text-turn text _ now at _ fits long further put (unlink f) taken _ _ _ y x (q .2),
-      deciphered-turn text _ now at _ fits long further put _ f _ _ _ _ _ _ (b .before .before .before .loop-test .taken) (step .ensures .1) _ x (step .ensures .2 ∙ summed) (q .3),
+      deciphered-turn text _ now at _ fits long further put _ f _ _ _ _ _ _ (b .before .before .before .before .loop-test .taken) (step .ensures .1) _ x (step .ensures .2 ∙ summed) (q .3),
     )
 
 same-length : tie.Need-same-length Inv-loop μ-loop
@@ -84,7 +87,7 @@ same-length c = c .before .loop .inv .0
 returns : tie.Need-returns Inv-loop μ-loop
 returns c =
     let l = c .before .loop in
-    let a = c .before .before .before .before .before .args in
+    let a = c .before .before .before .before .before .before .args in
     let f = invCipherBy (a .w .now) in (
       deciphered-done _ f _ _ (length (a .text .now) / 16) (l .count) _ _ (omega arith) (l .inv .3),
       text-done (unlink f) taken (l .previous) (l .text) _ (16 * l .count) (omega arith) (l .inv .2) ∙ sym (decrypted-whole f (a .start) (a .text .now)),
@@ -96,6 +99,7 @@ decipher-spec =
     (tie.spec
     Inv-loop
     μ-loop
+    inv-byte-table-requires
     prepare-requires
     loop-holds
     mul-at

@@ -18,14 +18,17 @@ use Rattle.cbc.proofs.encipher.Statement.{statement}
 use Rattle.cbc.proofs.encipher.Tie as tie
 
 abbrev Inv-loop : tie.InvT-loop
-Inv-loop key w text₀ sum blocks shown chained₀ count₀ after₀ text chained count after =
+Inv-loop key w text₀ sum blocks table shown chained₀ count₀ after₀ text chained count after =
     (length text ≡ length text₀)
     × (count ≤ blocks)
     × (take (16 * count) text ++ whole (link (cipherBy w)) (link (cipherBy w)) chained (drop (16 * count) text) ≡ whole (link (cipherBy w)) (link (cipherBy w)) chained₀ text₀)
     × (sumFrom after (enciphered key (cipherBy w) chained (blocks - count) (drop (16 * count) text)) ≡ sumFrom sum (enciphered key (cipherBy w) chained₀ blocks text₀))
 
 abbrev μ-loop : tie.MeasureT-loop
-μ-loop key w text₀ sum blocks shown chained₀ count₀ after₀ text chained count after = blocks - count
+μ-loop key w text₀ sum blocks table shown chained₀ count₀ after₀ text chained count after = blocks - count
+
+byte-table-requires : tie.Need-byte-table-requires Inv-loop μ-loop
+byte-table-requires c κs = search needs
 
 prepare-requires : tie.Need-prepare-requires Inv-loop μ-loop
 prepare-requires c κs = search needs
@@ -40,7 +43,7 @@ block-at-requires : tie.Need-block-at-requires Inv-loop μ-loop
 block-at-requires c κs = search needs
 
 encipher-block-requires : tie.Need-encipher-block-requires Inv-loop μ-loop
-encipher-block-requires c κs = search needs
+encipher-block-requires c κs = (c .before .before .before .before .before .before .byte-table .ensures, search needs, search needs)
 
 slice-aggregate-copy-at : tie.Need-slice-aggregate-copy-at Inv-loop μ-loop
 slice-aggregate-copy-at c = search needs
@@ -57,13 +60,13 @@ loop-less c = search needs
 loop-again : tie.Need-loop-again Inv-loop μ-loop
 loop-again c =
     let b = c .before .before .before .before .before .before in
-    let l = b .before .before .before .before in
+    let l = b .before .before .before .before .before in
     let q = l .loop .inv in
-    let a = l .before .before .before .before .args in
+    let a = l .before .before .before .before .before .args in
     let f = cipherBy (a .w .now) in
-    let summed = prepared-step (l .loop .after) (encipherStep (a .key .now) f (b .before .block-at .result ⊕ l .loop .chained)) (l .before .prepare .ensures) in
+    let summed = prepared-step (l .loop .after) (encipherStep (a .key .now) f (b .before .before .block-at .result ⊕ l .loop .chained)) (l .before .prepare .ensures) in
     let step = b .encipher-block in
-    let x = ap (λ p. p ⊕ l .loop .chained) (b .before .block-at .ensures) in
+    let x = ap (λ p. p ⊕ l .loop .chained) (b .before .before .block-at .ensures) in
     let y = step .ensures .0 ∙ ap f x in
     let long : length (step .result .block) ≡ 16 = search (needs, step .ok) in
     let text = l .loop .text in
@@ -75,7 +78,7 @@ loop-again c =
       omega arith,
       omega arith,
       text-turn text _ now at _ fits long further put (link f) (link f) _ _ _ y y (q .2),
-      enciphered-turn text _ now at _ fits long further put _ f _ _ _ _ _ _ (b .before .before .before .loop-test .taken) (step .ensures .1) _ _ _ x (step .ensures .0) (step .ensures .2 ∙ summed) (q .3),
+      enciphered-turn text _ now at _ fits long further put _ f _ _ _ _ _ _ (b .before .before .before .before .loop-test .taken) (step .ensures .1) _ _ _ x (step .ensures .0) (step .ensures .2 ∙ summed) (q .3),
     )
 
 same-length : tie.Need-same-length Inv-loop μ-loop
@@ -84,7 +87,7 @@ same-length c = c .before .loop .inv .0
 returns : tie.Need-returns Inv-loop μ-loop
 returns c =
     let l = c .before .loop in
-    let a = c .before .before .before .before .before .args in
+    let a = c .before .before .before .before .before .before .args in
     let f = cipherBy (a .w .now) in (
       enciphered-done _ f _ _ (length (a .text .now) / 16) (l .count) _ _ (omega arith) _ _ (l .inv .3),
       text-done (link f) (link f) (l .chained) (l .text) _ (16 * l .count) (omega arith) (l .inv .2) ∙ sym (encrypted-whole f (a .start) (a .text .now)),
@@ -96,6 +99,7 @@ encipher-spec =
     (tie.spec
     Inv-loop
     μ-loop
+    byte-table-requires
     prepare-requires
     loop-holds
     mul-at

@@ -19,7 +19,7 @@ prepare-requires : tie.Need-prepare-requires
 prepare-requires c κs = search needs
 
 encipher-requires : tie.Need-encipher-requires
-encipher-requires c κs = let p = c .before .before in rows-two (p .args .fa-key .now) (p .pre .1)
+encipher-requires c κs = let p = c .before .before in (p .pre .0, rows-two (p .args .fa-key .now) (p .pre .2))
 
 mix-cipher-requires : tie.Need-mix-cipher-requires
 mix-cipher-requires c κs = search needs
@@ -37,7 +37,7 @@ flip-requires : tie.Need-flip-requires
 flip-requires c κs = search needs
 
 encipher-requires-2 : tie.Need-encipher-requires-2
-encipher-requires-2 c κs = let p = c .before .before .before .before .before .before .before .before .before .before in rows-two (p .args .fa-key .now) (p .pre .1)
+encipher-requires-2 c κs = let p = c .before .before .before .before .before .before .before .before .before .before in (p .pre .0, rows-two (p .args .fa-key .now) (p .pre .2))
 
 sub-rest : tie.Need-sub-rest
 sub-rest c = search needs
@@ -48,7 +48,7 @@ slice-aggregate-copy-at-3 c = search needs
 array-share-prefix-second : tie.Need-array-share-prefix-second
 array-share-prefix-second c =
     let p = c .before .before .before .before .before .before .before .before .before .before .before .before in
-    let most = length-most (length (p .args .fa-key .now)) (p .pre .0) in
+    let most = length-most (length (p .args .fa-key .now)) (p .pre .1) in
     search (needs, most)
 
 slice-aggregate-copy-at-4 : tie.Need-slice-aggregate-copy-at-4
@@ -57,7 +57,7 @@ slice-aggregate-copy-at-4 c =
     let fa = p .args .fa-key .now in
     let x = c .before .before .encipher2 .result in
     let long : length x ≡ 16 = search needs in
-    sym (length-take-le (length fa - 16) x (omega (arith, long, length-most (length fa) (p .pre .0))))
+    sym (length-take-le (length fa - 16) x (omega (arith, long, length-most (length fa) (p .pre .1))))
 
 copy-at-requires-2 : tie.Need-copy-at-requires-2
 copy-at-requires-2 c κs =
@@ -65,7 +65,7 @@ copy-at-requires-2 c κs =
     let fa = p .args .fa-key .now in
     let x = c .before .before .encipher2 .result in
     let long : length x ≡ 16 = search needs in
-    omega (arith, long, length-most (length fa) (p .pre .0), length-take-le (length fa - 16) x (omega (arith, long, length-most (length fa) (p .pre .0))))
+    omega (arith, long, length-most (length fa) (p .pre .1), length-take-le (length fa - 16) x (omega (arith, long, length-most (length fa) (p .pre .1))))
 
 mix-cipher-requires-2 : tie.Need-mix-cipher-requires-2
 mix-cipher-requires-2 c κs = search needs
@@ -78,8 +78,8 @@ returns c =
     let m = c .before .before .before .before .before .before .before .before .before .before .before .before in
     let second = c .before .before .before .before .before in
     let f = second .before .flip .ensures in
-    let e = m .before .encipher .ensures ∙ by-rows fa (a .div) (p .pre .1) in
-    let e₂ = second .encipher2 .ensures ∙ by-rows fa (second .before .flip .result) (p .pre .1) ∙ ap (aesUnder fa) f in
+    let e = m .before .encipher .ensures ∙ by-rows fa (a .div) (p .pre .2) in
+    let e₂ = second .encipher2 .ensures ∙ by-rows fa (second .before .flip .result) (p .pre .2) ∙ ap (aesUnder fa) f in
     told-long fa (a .div) (a .sum) (c .before .before .before .before .before .before .before .if1 .taken)
     (c .before .before .before .before .before .before .before .before .before .copy-at .ensures ∙ ap (over (replicate 32 0) 0) e)
     e₂
@@ -93,8 +93,8 @@ returns-2 c =
     let a = p .args in
     let fa = a .fa-key .now in
     let m = c .before .before .before .before .before in
-    let e = m .before .encipher .ensures ∙ by-rows fa (a .div) (p .pre .1) in
-    told-short fa (a .div) (a .sum) (short (length fa) (p .pre .0) (c .if1 .left))
+    let e = m .before .encipher .ensures ∙ by-rows fa (a .div) (p .pre .2) in
+    told-short fa (a .div) (a .sum) (short (length fa) (p .pre .1) (c .if1 .left))
     (c .before .before .copy-at .ensures ∙ ap (over (replicate 32 0) 0) e)
     (m .mix-cipher .ensures ∙ prepared-step (a .sum) (record { kind = encipherment; key = fa; input = a .div; output = m .before .encipher .result }) (m .before .before .prepare .ensures) ∙ ap (λ (x : List ℕ). mixedAll (a .sum) (bytesOf (record { kind = encipherment; key = fa; input = a .div; output = x }))) e)
 

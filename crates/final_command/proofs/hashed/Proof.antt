@@ -1,73 +1,72 @@
--- `hashed` meets its contract: the two parts fill the message (Buffers). Assumes nothing.
-use mathlib.Core.List.{List, _++_}
-use mathlib.Core.Path.{_≡_, ap, _∙_}
-use Prim.Native.Nat.{ℕ}
+-- `hashed` meets its contract: the two parts, one behind the other, are the front of the buffer. Assumes nothing.
+use mathlib.Core.List.{List}
+use mathlib.Core.Path.{_≡_, refl, sym, ap, _∙_}
+use Prim.Native.Nat.{ℕ, _+_, _*_}
 use native.Mathlib.Omega.{arith}
-use borrow.Author.Needs.{needs}
 use lib.ListN.{length, replicate}
-use Rattle.octets.specs.Lists.{part, over, length-part}
-use Rattle.sha_block.specs.Hash.{sha256}
-use Rattle.work.specs.Steps.{hashBlock, sumFrom, counted}
-use Rattle.steps.specs.Made.{hashSteps}
-use Rattle.final_command.proofs.Buffers.{over-both}
+use lib.Seq.{length-take-le}
+use Rattle.octets.specs.Lists.{part, part-long, length-part}
+use Rattle.final_command.specs.Parts.{hashing}
+use Rattle.final_command.proofs.Buffers.{front-both}
+use borrow.Author.Needs.{needs}
 use Rattle.final_command.proofs.hashed.Statement.{statement}
 use Rattle.final_command.proofs.hashed.Tie as tie
 
 slice-aggregate-copy-at : tie.Need-slice-aggregate-copy-at
 slice-aggregate-copy-at c = search needs
 
-slice-aggregate-copy-at-2 : tie.Need-slice-aggregate-copy-at-2
-slice-aggregate-copy-at-2 c = search needs
-
 copy-at-requires : tie.Need-copy-at-requires
 copy-at-requires c κs = search needs
 
-slice-aggregate-copy-at-3 : tie.Need-slice-aggregate-copy-at-3
-slice-aggregate-copy-at-3 c = search needs
+part-of-requires : tie.Need-part-of-requires
+part-of-requires c κs = search needs
 
-sub-copy-at : tie.Need-sub-copy-at
-sub-copy-at c = search needs
-
-part-copy-at-start : tie.Need-part-copy-at-start
-part-copy-at-start c = search needs
-
-part-copy-at-end : tie.Need-part-copy-at-end
-part-copy-at-end c = search needs
+slice-aggregate-copy-at-2 : tie.Need-slice-aggregate-copy-at-2
+slice-aggregate-copy-at-2 c = search needs
 
 copy-at-requires-2 : tie.Need-copy-at-requires-2
-copy-at-requires-2 c κs = search needs
+copy-at-requires-2 c κs =
+    let b = c .before in
+    let a = b .before .before .before .before .before .before in
+    omega (arith, part-long (a .args .text .now) 2 (length (a .args .rnd1 .now)) (a .pre .1) (b .part-of .ensures), a .pre .0)
+
+mul-n : tie.Need-mul-n
+mul-n c = search needs
+
+array-share-prefix-m : tie.Need-array-share-prefix-m
+array-share-prefix-m c = search needs
 
 slice-aggregate-hash : tie.Need-slice-aggregate-hash
-slice-aggregate-hash c = search needs
+slice-aggregate-hash c =
+    let m = c .before .before .copy-at2 in
+    let t : length (m .last .0) ≡ 64 = m .kept .0 ∙ c .before .before .before .before .before .before .copy-at .kept .0 in
+    sym (length-take-le _ (m .last .0) (omega arith))
 
 hash-requires : tie.Need-hash-requires
 hash-requires c κs = search needs
 
 returns : tie.Need-returns
-unfolding part
 returns c =
-    let a = c .before .before .before .before .before .before .before .before .before .before .before .args in
-    let x : List ℕ = part (a .t2) 2 16 in
-    let r : length (a .t1) ≡ 16 = omega arith in
-    let t : length (a .t2) ≡ 240 = omega arith in
-    let m : c .before .before .before .copy-at2 .last .0 ≡ a .t1 ++ x =
-    c .before .before .before .copy-at2 .ensures
-    ∙ ap (λ (b : List ℕ). over b 16 x) (c .before .before .before .before .before .before .before .before .copy-at .ensures)
-    ∙ over-both (replicate 32 0) (a .t1) x 16 r (omega (arith, length-part (a .t2) 2 16 (omega arith))) in
-    c .hash .ensures ∙ ap (λ (b : List ℕ). record { digest = sha256 b; count = counted hashBlock (hashSteps b); sum = sumFrom (a .sum) (hashSteps b) }) m
+    let p = c .before .before .before in
+    let q = p .before .before .before .before in
+    let a = q .before .before .before .before in
+    let rnd1 : List ℕ = a .args .rnd1 .now in
+    let rnd2 : List ℕ = part (a .args .text .now) 2 (length rnd1) in
+    let n : length rnd1 + length rnd2 ≡ 2 * length rnd1 = omega (arith, length-part (a .args .text .now) 2 (length rnd1) (a .pre .1)) in
+    c .hash .ensures
+    ∙ ap (λ (b : List ℕ). hashing b (a .args .sum)) (front-both (replicate 64 0) rnd1 rnd2 (length rnd1) (2 * length rnd1) refl n (q .copy-at .ensures) (p .before .before .part-of .ensures) (p .copy-at2 .ensures))
 
 pub hashed-spec : {M : Type 1} → statement M
 hashed-spec =
     tie.close
     (tie.spec
     slice-aggregate-copy-at
-    slice-aggregate-copy-at-2
     copy-at-requires
-    slice-aggregate-copy-at-3
-    sub-copy-at
-    part-copy-at-start
-    part-copy-at-end
+    part-of-requires
+    slice-aggregate-copy-at-2
     copy-at-requires-2
+    mul-n
+    array-share-prefix-m
     slice-aggregate-hash
     hash-requires
     returns)

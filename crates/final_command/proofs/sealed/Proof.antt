@@ -1,8 +1,8 @@
 -- `sealed` meets its contract. Unpadding answers a text exactly where it is rightly padded (Verdict). Assumes nothing.
 use mathlib.Core.Bool.{_&&_}
 use mathlib.Core.Path.{sym, ap, _∙_}
-use borrow.Author.Needs.{needs}
 use Rattle.final_command.proofs.Verdict.{text-judged, malformed-judged, text-within}
+use borrow.Author.Needs.{needs}
 use Rattle.final_command.proofs.sealed.Statement.{statement}
 use Rattle.final_command.proofs.sealed.Tie as tie
 
@@ -13,7 +13,10 @@ enum-known-u : tie.Need-enum-known-u
 enum-known-u c = search needs
 
 ends-with-requires : tie.Need-ends-with-requires
-ends-with-requires c κs = text-within (c .before .before .before .before .before .args .s .now) _ (sym (c .before .before .before .unpad .ensures) ∙ c .before .u .given .1)
+ends-with-requires c κs =
+    let p = c .before .before .before in
+    let a = p .before .before .before in
+    (text-within (a .args .s .now) _ (sym (p .unpad .ensures) ∙ c .before .u .given .1), a .pre)
 
 both-requires : tie.Need-both-requires
 both-requires c κs = search needs
@@ -22,10 +25,13 @@ enum-told : tie.Need-enum-told
 enum-told c = search needs
 
 returns : tie.Need-returns
-returns c = c .both .ensures ∙ ap (λ x. x && c .before .before .before .before .before .before .before .args .held) (c .before .ends-with .ensures) ∙ text-judged (c .before .before .before .before .before .before .before .args .s .now) (c .before .before .before .before .before .before .before .args .hash) (c .before .before .before .before .before .before .before .args .held) _ (sym (c .before .before .before .before .before .unpad .ensures) ∙ c .before .before .before .u .given .1)
+returns c =
+    let p = c .before .before .before .before .before in
+    let a = p .before .before .before .args in
+    c .both .ensures ∙ ap (λ x. x && a .held) (c .before .ends-with .ensures) ∙ text-judged (a .s .now) (a .hash .now) (a .held) _ (sym (p .unpad .ensures) ∙ c .before .before .before .u .given .1)
 
 returns-2 : tie.Need-returns-2
-returns-2 c = malformed-judged (c .before .before .before .before .args .s .now) _ (sym (c .before .before .unpad .ensures) ∙ c .enum-told .given .1)
+returns-2 c = malformed-judged (c .before .before .before .before .before .args .s .now) _ (sym (c .before .before .unpad .ensures) ∙ c .enum-told .given .1)
 
 pub sealed-spec : {M : Type 1} → statement M
 sealed-spec =

@@ -4,6 +4,7 @@ use mathlib.Core.Path.{ap, _∙_}
 use native.Mathlib.Omega.{arith}
 use lib.ListN.{length}
 use Rattle.octets.specs.Lists.{over}
+use Rattle.plaid_types.specs.KeyLaws.{str1-most}
 use Rattle.frame.specs.Laws.{length-pads}
 use Rattle.initial.proofs.Writes.{head-writes}
 use Rattle.initial.proofs.head.Statement.{statement}
@@ -19,7 +20,13 @@ pad-bytes-requires : tie.Need-pad-bytes-requires
 pad-bytes-requires c κs = search needs
 
 copy-at-requires-2 : tie.Need-copy-at-requires-2
-copy-at-requires-2 c κs = let s = c .before .before .before .before .before .before .before .before .before in omega (arith, ap length (c .pad-bytes .ensures), length-pads (s .args .fresh .now) (s .pre .0))
+copy-at-requires-2 c κs = let s = c .before .before .before .before .before .before .before .before .before in omega (arith, ap length (c .pad-bytes .ensures), length-pads (s .args .l) (s .args .fresh .now) (s .pre .1))
+
+text-at-requires : tie.Need-text-at-requires
+text-at-requires c κs = search needs
+
+sub-copy-at : tie.Need-sub-copy-at
+sub-copy-at c = let s = c .before .before .before .before .before .before .before .before .before .before .before .before .before .before in omega (arith, c .text-at .ensures, str1-most (s .args .l) (s .pre .0))
 
 slice-aggregate-copy-at-2 : tie.Need-slice-aggregate-copy-at-2
 slice-aggregate-copy-at-2 c = search needs
@@ -32,13 +39,16 @@ same-length c = search needs
 
 returns : tie.Need-returns
 returns c =
-    let s = c .before .before .before .before .before .before .before .before .before .before .before .before .before .before .before .before .before in
+    let s = c .before .before .before .before .before .before .before .before .before .before .before .before .before .before .before .before .before .before in
     head-writes
+    (s .args .l)
     (s .args .fresh .now)
     _
     (s .pre .0)
-    (c .before .before .before .before .before .before .before .before .before .before .before .before .copy-at .ensures)
-    (c .before .before .before .before .before .before .before .copy-at2 .ensures ∙ ap (over _ 2) (c .before .before .before .before .before .before .before .before .pad-bytes .ensures))
+    (s .pre .1)
+    (c .before .before .before .before .text-at .ensures)
+    (c .before .before .before .before .before .before .before .before .before .before .before .before .before .copy-at .ensures)
+    (c .before .before .before .before .before .before .before .before .copy-at2 .ensures ∙ ap (over _ 2) (c .before .before .before .before .before .before .before .before .before .pad-bytes .ensures))
     (c .before .before .copy-at3 .ensures)
 
 pub head-spec : {M : Type 1} → statement M
@@ -49,6 +59,8 @@ head-spec =
     copy-at-requires
     pad-bytes-requires
     copy-at-requires-2
+    text-at-requires
+    sub-copy-at
     slice-aggregate-copy-at-2
     copy-at-requires-3
     same-length

@@ -1,18 +1,22 @@
 -- `initial::run` meets its contract: `accepted` and `refused` take what was found and what was written to the reply. Assumes nothing.
 use borrow.Author.Needs.{needs}
-use mathlib.Core.Path.{_≡_, sym, ap, _∙_}
+use mathlib.Core.Path.{_≡_, sym, _∙_}
 use native.Mathlib.Omega.{arith}
 use lib.ListN.{length, length-map}
-use Rattle.octets.specs.Lists.{part, length-part}
-use Rattle.initial.proofs.Replies.{accepted, refused}
+use Rattle.octets.specs.Lists.{part-long}
+use Rattle.plaid_types.specs.KeyLaws.{str1-most}
+use Rattle.initial.proofs.Replies.{length-fits, accepted, refused}
 use Rattle.initial.proofs.run.Statement.{statement}
 use Rattle.initial.proofs.run.Tie as tie
+
+lawful-requires : tie.Need-lawful-requires
+lawful-requires c κs = search needs
 
 compare-places-requires : tie.Need-compare-places-requires
 compare-places-requires c κs = search needs
 
 head-requires : tie.Need-head-requires
-head-requires c κs = search needs
+head-requires c κs = (length-fits _ (c .before .before .before .lawful .ensures), search needs, search needs)
 
 mul-k : tie.Need-mul-k
 mul-k c = search needs
@@ -20,11 +24,8 @@ mul-k c = search needs
 array-copy-out-k : tie.Need-array-copy-out-k
 array-copy-out-k c = search needs
 
-block-at-requires : tie.Need-block-at-requires
-block-at-requires c κs = search needs
-
-str1-requires : tie.Need-str1-requires
-str1-requires c κs = search needs
+opened-of-length-requires : tie.Need-opened-of-length-requires
+opened-of-length-requires c κs = (length-fits _ (c .before .before .before .before .before .before .before .before .before .before .before .lawful .ensures), search needs, search needs)
 
 same-length : tie.Need-same-length
 same-length c = search needs
@@ -41,23 +42,30 @@ returns c =
     (a .fresh .now)
     (s .pre .1)
     ld
-    (c .before .before .before .before .before .before .before .before .before .before .before .before .before .compare-places .ensures)
+    (c .before .before .before .before .before .before .before .before .before .before .before .before .before .before .lawful .ensures)
+    (c .before .before .before .before .before .before .before .before .before .before .before .before .compare-places .ensures)
     (a .out .now)
     _
     ls
-    (omega (arith, c .before .before .before .before .before .before .before .before .if1 .taken))
-    (c .before .before .before .before .block-at .ensures)
-    (c .before .before .before .before .before .before .before .before .before .before .before .head .ensures)
-    (c .before .before .str1 .ensures)
+    (omega (arith, c .before .before .before .before .before .before .before .if1 .taken))
+    (c .before .before .opened-of-length .ensures .0)
+    (c .before .before .before .before .before .before .before .before .before .before .head .ensures)
+    (c .before .before .opened-of-length .ensures .1)
 
-first-fifty-requires : tie.Need-first-fifty-requires
-first-fifty-requires c κs = search needs
+text-at-requires : tie.Need-text-at-requires
+text-at-requires c κs = length-fits _ (c .before .before .before .before .before .before .before .before .lawful .ensures)
+
+str1-length-requires : tie.Need-str1-length-requires
+str1-length-requires c κs = length-fits _ (c .before .before .before .before .before .before .before .before .before .lawful .ensures)
+
+part-of-requires : tie.Need-part-of-requires
+part-of-requires c κs = omega (arith, c .str1-length .ensures, str1-most _ (length-fits _ (c .before .before .before .before .before .before .before .before .before .before .lawful .ensures)), c .before .before .before .before .before .before .before .before .before .before .before .before .before .before .pre .1)
 
 copy-at-requires : tie.Need-copy-at-requires
 copy-at-requires c κs =
-    let s = c .before .before .before .before .before .before .before .before .before .before .before .before in
-    let l : length (part (s .args .fresh .now) 0 50) ≡ 50 = length-part (s .args .fresh .now) 0 50 (omega (arith, s .pre .1)) in
-    omega (arith, ap length (c .first-fifty .ensures), l)
+    let h = str1-most _ (length-fits _ (c .before .before .before .before .before .before .before .before .before .before .before .lawful .ensures)) in
+    let n = part-long _ _ _ (omega (arith, c .before .str1-length .ensures, c .before .before .before .before .before .before .before .before .before .before .before .before .before .before .before .pre .1)) (c .part-of .ensures) in
+    omega (arith, c .before .str1-length .ensures, c .before .before .text-at .ensures, c .before .before .before .before .before .before .before .before .before .before .before .before .before .before .before .pre .2)
 
 close-requires : tie.Need-close-requires
 close-requires c κs = search needs
@@ -67,7 +75,7 @@ same-length-2 c = search needs
 
 returns-2 : tie.Need-returns-2
 returns-2 c =
-    let s = c .before .before .before .before .before .before .before .before .before .before .before .before .before .before .before .before .before in
+    let s = c .before .before .before .before .before .before .before .before .before .before .before .before .before .before .before .before .before .before .before .before in
     let a = s .args in
     let ld : length (a .card .«div_data») ≡ 16 = search (needs, s .good .0) in
     refused
@@ -76,27 +84,32 @@ returns-2 c =
     (a .fresh .now)
     (s .pre .1)
     ld
-    (c .before .before .before .before .before .before .before .before .before .before .before .before .compare-places .ensures)
+    (c .before .before .before .before .before .before .before .before .before .before .before .before .before .before .before .before .lawful .ensures)
+    (c .before .before .before .before .before .before .before .before .before .before .before .before .before .before .compare-places .ensures)
     (a .out .now)
-    (omega (arith, c .before .before .before .before .before .before .before .if1 .left))
+    (omega (arith, c .before .before .before .before .before .before .before .before .before .if1 .left))
     (c .close .ensures)
-    (c .before .before .before .before .before .first-fifty .ensures)
-    (c .before .before .before .before .before .before .before .before .before .before .head .ensures)
+    (c .before .before .before .before .before .before .str1-length .ensures)
+    (c .before .before .before .before .before .part-of .ensures)
+    (c .before .before .before .before .before .before .before .text-at .ensures)
+    (c .before .before .before .before .before .before .before .before .before .before .before .before .head .ensures)
     (c .before .before .before .before .copy-at .ensures)
 
 pub run-spec : {M : Type 1} → statement M
 run-spec =
     tie.close
     (tie.spec
+    lawful-requires
     compare-places-requires
     head-requires
     mul-k
     array-copy-out-k
-    block-at-requires
-    str1-requires
+    opened-of-length-requires
     same-length
     returns
-    first-fifty-requires
+    text-at-requires
+    str1-length-requires
+    part-of-requires
     copy-at-requires
     close-requires
     same-length-2

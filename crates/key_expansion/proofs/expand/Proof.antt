@@ -27,7 +27,10 @@ returns c =
     ∙ ap (λ (n : ℕ). fifteen (n / 4) key) (sym l)
 
 long-rows-requires : tie.Need-long-rows-requires
-long-rows-requires c κs = longer (length (c .before .before .args .key .now)) (c .before .before .pre) (c .if1 .left)
+long-rows-requires c κs =
+    let p = c .before .before in
+    let l = longer (length (p .args .key .now)) (p .pre .1) (c .if1 .left) in
+    (p .pre .0, l .0, l .1, l .2)
 
 returns-2 : tie.Need-returns-2
 returns-2 c = search needs

@@ -11,13 +11,10 @@ use Rattle.key_expansion.proofs.long_rows.Statement.{statement}
 use Rattle.key_expansion.proofs.long_rows.Tie as tie
 
 abbrev Inv-loop : tie.InvT-loop
-Inv-loop nk key table w₀ older₀ newer₀ x₀ j₀ i₀ w older newer x j i = Made nk key w₀ w older newer j x i
+Inv-loop table nk key w₀ older₀ newer₀ x₀ j₀ i₀ w older newer x j i = Made nk key w₀ w older newer j x i
 
 abbrev μ-loop : tie.MeasureT-loop
-μ-loop nk key table w₀ older₀ newer₀ x₀ j₀ i₀ w older newer x j i = nk + 7 - i
-
-byte-table-requires : tie.Need-byte-table-requires Inv-loop μ-loop
-byte-table-requires c κs = search needs
+μ-loop table nk key w₀ older₀ newer₀ x₀ j₀ i₀ w older newer x j i = nk + 7 - i
 
 block-at-requires : tie.Need-block-at-requires Inv-loop μ-loop
 block-at-requires c κs = search needs
@@ -52,10 +49,10 @@ first-row-requires c κs = search needs
 loop-holds : tie.Need-loop-holds Inv-loop μ-loop
 loop-holds c =
     let r = c .first-row in
-    let p = c .before .before .before .before .before .before .before .before in
+    let p = c .before .before .before .before .before .before .before in
     let nk = p .args .nk in
     let key = p .args .key .now in
-    let kl = p .pre .0 in
+    let kl = p .pre .1 in
     let b = c .before .before .before .before in
     let first = b .before .block-at in
     let f = key-words nk key (c .before .before .before .columns-of .result) 0 (omega (arith, length-least (4 * nk) kl)) (c .before .before .before .columns-of .ensures ∙ first .ensures) in
@@ -88,18 +85,18 @@ loop-less c = search needs
 
 loop-again : tie.Need-loop-again Inv-loop μ-loop
 loop-again c =
-    let l = c .before .before .before .before .before .loop in
-    let p = c .before .before .before .before .before .before .before .before .before .before .before .before .before .before in
+    let l = c .before .before .before .before .loop in
+    let p = c .before .before .before .before .before .before .before .before .before .before .before .before in
     let t = c .before .before .turn in
-    let lt = c .before .before .before .before .loop-test .taken in
+    let lt = c .before .before .before .loop-test .taken in
     let e = t .ensures in
-    made-more (p .args .nk) (p .args .key .now) (p .pre .0) (l .older) (l .newer) (t .result .next) (l .j) (l .x) (l .i) (search needs) lt (l .inv) (e .0) (e .1) (e .2) (e .3) (c .before .bytes-of .ensures)
+    made-more (p .args .nk) (p .args .key .now) (p .pre .1) (l .older) (l .newer) (t .result .next) (l .j) (l .x) (l .i) (search needs) lt (l .inv) (e .0) (e .1) (e .2) (e .3) (c .before .bytes-of .ensures)
 
 returns : tie.Need-returns Inv-loop μ-loop
 returns c =
     let l = c .before .loop in
-    let p = c .before .before .before .before .before .before .before .before .before .before in
-    made-all (p .args .nk) (p .args .key .now) (p .pre .0) _ (l .w) (l .i) (search needs)
+    let p = c .before .before .before .before .before .before .before .before .before in
+    made-all (p .args .nk) (p .args .key .now) (p .pre .1) _ (l .w) (l .i) (search needs)
     (λ k h d. behind-two _ _ k (omega arith) d)
     (c .loop-test .left) (l .inv)
 
@@ -109,7 +106,6 @@ long-rows-spec =
     (tie.spec
     Inv-loop
     μ-loop
-    byte-table-requires
     block-at-requires
     mul-block-at
     sub-block-at

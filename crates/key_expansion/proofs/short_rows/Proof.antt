@@ -18,9 +18,6 @@ Inv-loop table w₀ newer₀ x₀ i₀ w newer x i = Made 4 (stateOf newer₀) w
 abbrev μ-loop : tie.MeasureT-loop
 μ-loop table w₀ newer₀ x₀ i₀ w newer x i = 11 - i
 
-byte-table-requires : tie.Need-byte-table-requires Inv-loop μ-loop
-byte-table-requires c κs = search needs
-
 array-set-from-w : tie.Need-array-set-from-w Inv-loop μ-loop
 array-set-from-w c = search needs
 
@@ -55,11 +52,11 @@ loop-less c = search needs
 loop-again : tie.Need-loop-again Inv-loop μ-loop
 unfolding keyLength
 loop-again c =
-    let l = c .before .before .before .before .before .loop in
+    let l = c .before .before .before .before .loop in
     let t = c .before .before .turn in
-    let s = c .before .before .before .before .before .before .columns-of .result in
+    let s = c .before .before .before .before .before .columns-of .result in
     let e = t .ensures in
-    let m = made-more 4 (stateOf s) refl (l .newer) (l .newer) (t .result .next) 0 (l .x) (l .i) (search needs) (c .before .before .before .before .loop-test .taken) (l .inv) (e .0) (e .1) refl (e .3) (c .before .bytes-of .ensures) in
+    let m = made-more 4 (stateOf s) refl (l .newer) (l .newer) (t .result .next) 0 (l .x) (l .i) (search needs) (c .before .before .before .loop-test .taken) (l .inv) (e .0) (e .1) refl (e .3) (c .before .bytes-of .ensures) in
     (m .0, m .1, m .2, record { source = m .3 .source; last = m .3 .last; place = m .3 .place; below = m .3 .below; constant = m .3 .constant }, m .4)
 
 returns : tie.Need-returns Inv-loop μ-loop
@@ -76,7 +73,6 @@ short-rows-spec =
     (tie.spec
     Inv-loop
     μ-loop
-    byte-table-requires
     array-set-from-w
     columns-of-requires
     loop-holds

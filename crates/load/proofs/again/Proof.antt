@@ -1,7 +1,8 @@
--- `again` meets its contract. What is left to look at, with what was seen, is the whole (Turns). Assumes nothing.
+-- `again` meets its contract. What is left to look at is the whole (Turns). Assumes nothing.
 use Prim.Native.Nat.{_-_}
-use mathlib.Core.Path.{_≡_}
-use mathlib.Core.Bool.{_||_}
+use mathlib.Core.Path.{_≡_, sym}
+use mathlib.Core.Bool.{true, false}
+use borrow.Author.Tests.{eq-eqb, ne-eqb}
 use lib.ListN.{take, drop}
 use lib.Dec.{eqb}
 use Rattle.load.specs.Load.{some}
@@ -11,10 +12,10 @@ use Rattle.load.proofs.again.Statement.{statement}
 use Rattle.load.proofs.again.Tie as tie
 
 abbrev Inv-loop : tie.InvT-loop
-Inv-loop ids i n x r₀ j₀ r j = (r || some (eqb x) (drop j (take n ids))) ≡ some (eqb x) (drop j₀ (take n ids))
+Inv-loop ids i n x j₀ j = some (eqb x) (drop j (take n ids)) ≡ some (eqb x) (drop j₀ (take n ids))
 
 abbrev μ-loop : tie.MeasureT-loop
-μ-loop ids i n x r₀ j₀ r j = n - j
+μ-loop ids i n x j₀ j = n - j
 
 mul-x : tie.Need-mul-x Inv-loop μ-loop
 mul-x c = search needs
@@ -28,14 +29,16 @@ add-j c = search needs
 loop-holds : tie.Need-loop-holds Inv-loop μ-loop
 loop-holds c = search needs
 
-mul-either : tie.Need-mul-either Inv-loop μ-loop
-mul-either c = search needs
+mul-if1 : tie.Need-mul-if1 Inv-loop μ-loop
+mul-if1 c = search needs
 
-shared-slice-read-either : tie.Need-shared-slice-read-either Inv-loop μ-loop
-shared-slice-read-either c = search needs
+shared-slice-read-if1 : tie.Need-shared-slice-read-if1 Inv-loop μ-loop
+shared-slice-read-if1 c = search needs
 
-either-requires : tie.Need-either-requires Inv-loop μ-loop
-either-requires c κs = search needs
+returns : tie.Need-returns Inv-loop μ-loop
+returns c =
+    some-turn _ _ _ _ 0 false true _ (c .before .before .loop-test .taken) (c .before .before .before .before .before .pre .1)
+    (sym (eq-eqb _ _ (c .if1 .taken))) (c .before .before .before .loop .inv)
 
 add-j-2 : tie.Need-add-j-2 Inv-loop μ-loop
 add-j-2 c = search needs
@@ -45,11 +48,11 @@ loop-less c = search needs
 
 loop-again : tie.Need-loop-again Inv-loop μ-loop
 loop-again c =
-    some-turn _ _ _ _ 0 (c .before .before .before .loop .r) _ _ (c .before .before .loop-test .taken)
-    (c .before .before .before .before .before .before .pre .1) (c .either .ensures) (c .before .before .before .loop .inv)
+    some-turn _ _ _ _ 0 false false _ (c .before .before .loop-test .taken) (c .before .before .before .before .before .pre .1)
+    (sym (ne-eqb _ _ (c .if1 .left))) (c .before .before .before .loop .inv)
 
-returns : tie.Need-returns Inv-loop μ-loop
-returns c = some-done _ _ _ _ (c .before .loop .r) _ (c .loop-test .left) (c .before .loop .inv)
+returns-2 : tie.Need-returns-2 Inv-loop μ-loop
+returns-2 c = some-done _ _ _ _ false _ (c .loop-test .left) (c .before .loop .inv)
 
 pub again-spec : {M : Type 1} → statement M
 again-spec =
@@ -61,10 +64,10 @@ again-spec =
     shared-slice-read-x
     add-j
     loop-holds
-    mul-either
-    shared-slice-read-either
-    either-requires
+    mul-if1
+    shared-slice-read-if1
+    returns
     add-j-2
     loop-less
     loop-again
-    returns)
+    returns-2)

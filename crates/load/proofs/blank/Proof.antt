@@ -1,4 +1,6 @@
 -- `blank` meets its contract: its parts are those of the definition. Assumes nothing.
+use Rattle.octets.specs.Lists.{part, over}
+use Rattle.plaid_types.specs.Keys.{wide, held}
 use Rattle.load.specs.Load.{blankCard, loadedCard}
 use borrow.Author.Needs.{needs}
 use Rattle.load.proofs.blank.Statement.{statement}
@@ -17,7 +19,7 @@ none-requires : tie.Need-none-requires
 none-requires c κs = search needs
 
 returns : tie.Need-returns
-unfolding blankCard loadedCard
+unfolding blankCard loadedCard wide held over part
 returns c =
     simp (c .none .ensures, c .before .empty-area .ensures, c .before .before .empty-modes .ensures, c .before .before .before .empty-sets .ensures)
 

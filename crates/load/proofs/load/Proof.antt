@@ -1,8 +1,9 @@
 -- `load` meets its contract: what it calls finds the fault, and where there is none, what that shows is what the copies ask. Assumes nothing.
-use mathlib.Core.Path.{sym, _∙_}
-use lib.ListN.{length}
-use Rattle.load.specs.Load.{loadedCard}
-use Rattle.load.specs.Laws.{accepted, load-made, load-refused}
+use mathlib.Core.Path.{_≡_, sym, _∙_}
+use native.Mathlib.Omega.{arith}
+use lib.ListN.{length, getD}
+use Rattle.load.specs.Load.{pastSet, loadedCard}
+use Rattle.load.specs.Laws.{accepted, key-within, set-right, load-made, load-refused}
 use borrow.Author.Needs.{needs}
 use Rattle.load.proofs.load.Statement.{statement}
 use Rattle.load.proofs.load.Tie as tie
@@ -18,35 +19,47 @@ returns c =
     let a = c .before .before .before .before .args in
     let f = c .before .before .fault in
     simp (c .blank .ensures, f .ensures)
-    (sym (load-refused (a .sets) (a .set-count) (a .modes) (a .mode-count) (a .area .now) (a .div-data) (a .shill-key) (a .shill-handle) (λ z. c .before .if1 .taken (f .ensures ∙ z))))
-
-set-slots-requires : tie.Need-set-slots-requires
-set-slots-requires c κs =
-    let a = c .before .before .before .args in
-    let z = sym (c .before .fault .ensures) ∙ c .if1 .left in
-    let k = accepted (a .sets) (a .set-count) (a .modes) (a .mode-count) (length (a .area .now)) (a .shill-handle) z in
-    k .sets-most
+    (sym (load-refused (a .l) (a .sets) (a .n) (a .modes) (a .m) (a .area .now) (a .div-data) (a .shill-key) (a .shill-handle) (λ z. c .before .if1 .taken (f .ensures ∙ z))))
 
 mode-slots-requires : tie.Need-mode-slots-requires
 mode-slots-requires c κs =
-    let a = c .before .before .before .before .args in
-    let z = sym (c .before .before .fault .ensures) ∙ c .before .if1 .left in
-    let k = accepted (a .sets) (a .set-count) (a .modes) (a .mode-count) (length (a .area .now)) (a .shill-handle) z in
+    let a = c .before .before .before .args in
+    let k =
+    accepted (a .l) (a .sets) (a .n) (a .modes) (a .m) (length (a .area .now)) (a .shill-key) (a .shill-handle)
+    (sym (c .before .fault .ensures) ∙ c .if1 .left)
+    in
     k .modes-most
+
+set-slots-requires : tie.Need-set-slots-requires
+set-slots-requires c κs =
+    let d = c .before .before in
+    let a = d .before .before .before .args in
+    let k =
+    accepted (a .l) (a .sets) (a .n) (a .modes) (a .m) (length (a .area .now)) (a .shill-key) (a .shill-handle)
+    (sym (d .before .fault .ensures) ∙ d .if1 .left)
+    in
+    let e : length (a .sets) ≡ 8 = search needs in
+    (k .sets-most, λ i h. key-within (a .l) (getD (a .sets) i pastSet .«fa_key») (k .length-one) (set-right k i h (omega (arith, k .sets-most))))
 
 copied-requires : tie.Need-copied-requires
 copied-requires c κs =
-    let a = c .before .before .before .before .before .args in
-    let z = sym (c .before .before .before .fault .ensures) ∙ c .before .before .if1 .left in
-    let k = accepted (a .sets) (a .set-count) (a .modes) (a .mode-count) (length (a .area .now)) (a .shill-handle) z in
+    let d = c .before .before .before in
+    let a = d .before .before .before .args in
+    let k =
+    accepted (a .l) (a .sets) (a .n) (a .modes) (a .m) (length (a .area .now)) (a .shill-key) (a .shill-handle)
+    (sym (d .before .fault .ensures) ∙ d .if1 .left)
+    in
     k .area-most
 
-largest-size-requires : tie.Need-largest-size-requires
-largest-size-requires c κs =
-    let a = c .before .before .before .before .before .before .args in
-    let z = sym (c .before .before .before .before .fault .ensures) ∙ c .before .before .before .if1 .left in
-    let k = accepted (a .sets) (a .set-count) (a .modes) (a .mode-count) (length (a .area .now)) (a .shill-handle) z in
-    k .modes-most
+wide-requires : tie.Need-wide-requires
+wide-requires c κs =
+    let d = c .before .before .before .before in
+    let a = d .before .before .before .args in
+    let k =
+    accepted (a .l) (a .sets) (a .n) (a .modes) (a .m) (length (a .area .now)) (a .shill-key) (a .shill-handle)
+    (sym (d .before .fault .ensures) ∙ d .if1 .left)
+    in
+    key-within (a .l) (a .shill-key) (k .length-one) (k .key-right)
 
 none-requires : tie.Need-none-requires
 none-requires c κs = search needs
@@ -54,15 +67,17 @@ none-requires c κs = search needs
 returns-2 : tie.Need-returns-2
 unfolding loadedCard
 returns-2 c =
-    let a = c .before .before .before .before .before .before .before .before .args in
-    let z = sym (c .before .before .before .before .before .before .fault .ensures) ∙ c .before .before .before .before .before .if1 .left in
+    let d = c .before .before .before .before .before .before in
+    let a = d .before .before .before .args in
     simp (
       c .none .ensures,
-      c .before .largest-size .ensures,
+      c .before .wide .ensures,
       c .before .before .copied .ensures,
-      c .before .before .before .mode-slots .ensures,
-      c .before .before .before .before .set-slots .ensures,
-    ) (sym (load-made (a .sets) (a .set-count) (a .modes) (a .mode-count) (a .area .now) (a .div-data) (a .shill-key) (a .shill-handle) z))
+      c .before .before .before .set-slots .ensures,
+      c .before .before .before .before .before .mode-slots .ensures .0,
+      c .before .before .before .before .before .mode-slots .ensures .1,
+    )
+    (sym (load-made (a .l) (a .sets) (a .n) (a .modes) (a .m) (a .area .now) (a .div-data) (a .shill-key) (a .shill-handle) (sym (d .before .fault .ensures) ∙ d .if1 .left)))
 
 pub load-spec : {M : Type 1} → statement M
 load-spec =
@@ -71,9 +86,9 @@ load-spec =
     fault-requires
     blank-requires
     returns
-    set-slots-requires
     mode-slots-requires
+    set-slots-requires
     copied-requires
-    largest-size-requires
+    wide-requires
     none-requires
     returns-2)

@@ -1,7 +1,7 @@
--- `repeats` meets its contract. What is left to look at, with what was seen, is the whole (Turns). Assumes nothing.
+-- `repeats` meets its contract. What is left to look at is the whole (Turns). Assumes nothing.
 use Prim.Native.Nat.{_-_}
-use mathlib.Core.Path.{_≡_, ap, _∙_}
-use mathlib.Core.Bool.{Bool, _||_}
+use mathlib.Core.Path.{_≡_, sym, _∙_}
+use mathlib.Core.Bool.{true, false}
 use lib.ListN.{take, drop}
 use Rattle.load.specs.Load.{repeated}
 use Rattle.load.proofs.Turns.{again-turn, again-done}
@@ -10,10 +10,10 @@ use Rattle.load.proofs.repeats.Statement.{statement}
 use Rattle.load.proofs.repeats.Tie as tie
 
 abbrev Inv-loop : tie.InvT-loop
-Inv-loop ids n r₀ i₀ r i = (r || repeated (drop i (take n ids))) ≡ repeated (take n ids)
+Inv-loop ids n i₀ i = repeated (drop i (take n ids)) ≡ repeated (take n ids)
 
 abbrev μ-loop : tie.MeasureT-loop
-μ-loop ids n r₀ i₀ r i = n - i
+μ-loop ids n i₀ i = n - i
 
 loop-holds : tie.Need-loop-holds Inv-loop μ-loop
 loop-holds c = search needs
@@ -21,8 +21,10 @@ loop-holds c = search needs
 again-requires : tie.Need-again-requires Inv-loop μ-loop
 again-requires c κs = search needs
 
-either-requires : tie.Need-either-requires Inv-loop μ-loop
-either-requires c κs = search needs
+returns : tie.Need-returns Inv-loop μ-loop
+returns c =
+    again-turn _ _ _ false true _ (c .before .before .loop-test .taken) (c .before .before .before .before .before .pre)
+    (sym (c .if1 .taken) ∙ c .before .again .ensures) (c .before .before .before .loop .inv)
 
 add-i : tie.Need-add-i Inv-loop μ-loop
 add-i c = search needs
@@ -32,12 +34,11 @@ loop-less c = search needs
 
 loop-again : tie.Need-loop-again Inv-loop μ-loop
 loop-again c =
-    let q = c .before .before .before .loop in
-    again-turn _ _ _ (q .r) _ _ (c .before .before .loop-test .taken) (c .before .before .before .before .before .pre)
-    (c .either .ensures ∙ ap (λ (t : Bool). q .r || t) (c .before .again .ensures)) (q .inv)
+    again-turn _ _ _ false false _ (c .before .before .loop-test .taken) (c .before .before .before .before .before .pre)
+    (sym (c .if1 .left) ∙ c .before .again .ensures) (c .before .before .before .loop .inv)
 
-returns : tie.Need-returns Inv-loop μ-loop
-returns c = again-done _ _ _ (c .before .loop .r) _ (c .loop-test .left) (c .before .loop .inv)
+returns-2 : tie.Need-returns-2 Inv-loop μ-loop
+returns-2 c = again-done _ _ _ false _ (c .loop-test .left) (c .before .loop .inv)
 
 pub repeats-spec : {M : Type 1} → statement M
 repeats-spec =
@@ -47,8 +48,8 @@ repeats-spec =
     μ-loop
     loop-holds
     again-requires
-    either-requires
+    returns
     add-i
     loop-less
     loop-again
-    returns)
+    returns-2)

@@ -32,7 +32,7 @@ array-copy-out-set-slot : tie.Need-array-copy-out-set-slot Inv-loop μ-loop
 array-copy-out-set-slot c = search needs
 
 set-slot-requires : tie.Need-set-slot-requires Inv-loop μ-loop
-set-slot-requires c κs = search needs
+set-slot-requires c κs = c .before .before .before .before .pre .1 (c .before .before .loop .i) (c .before .loop-test .taken)
 
 mul-slots : tie.Need-mul-slots Inv-loop μ-loop
 mul-slots c = search needs

@@ -11,19 +11,19 @@ use Rattle.octets.proofs.equal.Statement.{statement}
 use Rattle.octets.proofs.equal.Tie as tie
 
 abbrev Inv-loop : tie.InvT-loop
-Inv-loop a b r₀ i₀ r i = (i ≤ 16) × ((r && same (drop i a) (drop i b)) ≡ same a b)
+Inv-loop a b r₀ i₀ r i = (i ≤ length a) × ((r && same (drop i a) (drop i b)) ≡ same a b)
 
 abbrev μ-loop : tie.MeasureT-loop
-μ-loop a b r₀ i₀ r i = 16 - i
+μ-loop a b r₀ i₀ r i = length a - i
 
 loop-holds : tie.Need-loop-holds Inv-loop μ-loop
 loop-holds c = (omega arith, refl)
 
-array-read-both : tie.Need-array-read-both Inv-loop μ-loop
-array-read-both c = search needs
+shared-slice-read-both : tie.Need-shared-slice-read-both Inv-loop μ-loop
+shared-slice-read-both c = search needs
 
-array-read-both-2 : tie.Need-array-read-both-2 Inv-loop μ-loop
-array-read-both-2 c = search needs
+shared-slice-read-both-2 : tie.Need-shared-slice-read-both-2 Inv-loop μ-loop
+shared-slice-read-both-2 c = search needs
 
 both-requires : tie.Need-both-requires Inv-loop μ-loop
 both-requires c κs = search needs
@@ -36,11 +36,11 @@ loop-less c = search needs
 
 loop-again : tie.Need-loop-again Inv-loop μ-loop
 loop-again c =
-    let l = c .before .before .loop in
-    let a = c .before .before .before .args .t1 in
-    let b = c .before .before .before .args .t2 in
-    let la : length a ≡ 16 = search needs in
-    let lb : length b ≡ 16 = search needs in (
+    let l = c .before .before .before .before .loop in
+    let p = c .before .before .before .before .before .before .before in
+    let a = p .args .a .now in
+    let b = p .args .b .now in
+    let same-long : length a ≡ length b = p .pre in (
       omega arith,
       ap (λ (x : Bool). x && same (drop (l .i + 1) a) (drop (l .i + 1) b)) (c .both .ensures)
           ∙ and-assoc (l .r) (_) (same (drop (l .i + 1) a) (drop (l .i + 1) b))
@@ -51,10 +51,10 @@ loop-again c =
 returns : tie.Need-returns Inv-loop μ-loop
 returns c =
     let l = c .before .loop in
-    let a = c .before .before .args .t1 in
-    let b = c .before .before .args .t2 in
-    let la : length a ≡ 16 = search needs in
-    let lb : length b ≡ 16 = search needs in
+    let p = c .before .before .before .before in
+    let a = p .args .a .now in
+    let b = p .args .b .now in
+    let same-long : length a ≡ length b = p .pre in
     sym (same-done (l .r) a b (l .i) (omega arith) (omega arith)) ∙ l .inv .1
 
 pub equal-spec : {M : Type 1} → statement M
@@ -64,8 +64,8 @@ equal-spec =
     Inv-loop
     μ-loop
     loop-holds
-    array-read-both
-    array-read-both-2
+    shared-slice-read-both
+    shared-slice-read-both-2
     both-requires
     add-i
     loop-less

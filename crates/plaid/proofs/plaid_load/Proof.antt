@@ -181,7 +181,7 @@ module _ {M : Type 1} (𝓤 : URA M) (H : Heap 𝓤) (A : Atoms 𝓤) (W : Given
   goes-eight = qed W (Toks′ ∷ ‵ (owns rows values passed) ∷ []) ∵ join ! $ frame ! $ done !
 
   abbrev answer : Loaded
-  answer = loaded (at 0 ∷ at 1 ∷ at 2 ∷ at 3 ∷ at 4 ∷ at 5 ∷ at 6 ∷ at 7 ∷ []) (length ys) (g .modes) (g .«mode_count») (y .now) (g .«div_data») (g .«shill_key») (g .«shill_handle»)
+  answer = loaded (g .«key_length») (at 0 ∷ at 1 ∷ at 2 ∷ at 3 ∷ at 4 ∷ at 5 ∷ at 6 ∷ at 7 ∷ []) (length ys) (g .modes) (g .«mode_count») (y .now) (g .«div_data») (g .«shill_key») (g .«shill_handle»)
 
   abbrev Answered : Loaded → SProp 𝓤
   Answered = ensured 𝓤 H A eight.ended (eight.clauses 𝓤 H A mem run) (κ′, tt) values tt

@@ -1,48 +1,46 @@
 -- `reader_accept::accept_in` meets its contract: each way out is a case of the definitions (`Cases`). Assumes nothing.
 use borrow.Author.Needs.{needs}
-use mathlib.Core.Path.{sym, _∙_}
+use mathlib.Core.Path.{_≡_, sym, ap, _∙_}
 use native.Mathlib.Omega.{arith}
 use borrow.Author.Tests.{not-true, not-false}
+use lib.ListN.{length}
 use lib.Seq.{length-take-le}
+use Rattle.key_expansion.specs.KeyLength.{keyLength, length-most}
 use Rattle.reader_accept.specs.Laws.{known}
-use Rattle.reader_accept.proofs.Cases.{length-unknown, work-short, text-refused, text-accepted}
+use Rattle.reader_accept.proofs.Cases.{seen, not-deciphered, text-refused, text-accepted}
 use Rattle.reader_accept.proofs.accept_in.Statement.{statement}
 use Rattle.reader_accept.proofs.accept_in.Tie as tie
 
-known-length-requires : tie.Need-known-length-requires
-known-length-requires c κs = search needs
+fault-requires : tie.Need-fault-requires
+fault-requires c κs = search needs
 
 returns : tie.Need-returns
 returns c =
     let a = c .before .before .before .before .args in
-    length-unknown
-    (a .keys-hash)
-    (a .div-data)
-    (a .record-length)
-    (a .response .now)
-    (a .work .now)
-    (sym (c .before .known-length .ensures) ∙ not-true _ (c .if1 .taken))
+    not-deciphered (a .l) (a .keys-hash) (a .div-data) (a .record-length) (a .response .now) (a .work .now) (c .before .fault .ensures) (c .if1 .taken)
 
-returns-2 : tie.Need-returns-2
-returns-2 c =
-    let a = c .before .before .before .before .before .args in
-    work-short
-    (a .keys-hash)
-    (a .div-data)
-    (a .record-length)
-    (a .response .now)
-    (a .work .now)
-    (sym (c .before .before .known-length .ensures) ∙ not-false _ (c .before .if1 .left))
-    (c .if2 .taken)
+array-share-prefix-bytes : tie.Need-array-share-prefix-bytes
+array-share-prefix-bytes c =
+    let e : length (c .before .before .before .before .before .args .keys-hash .bytes) ≡ 32 = search (needs, c .before .before .before .before .before .good .1 .0) in
+    omega (arith, e, length-most _ (seen (c .before .before .fault .ensures) (c .before .if1 .left) .length-one))
+
+slice-aggregate-hash : tie.Need-slice-aggregate-hash
+slice-aggregate-hash c =
+    let e : length (c .before .before .before .before .before .before .args .keys-hash .bytes) ≡ 32 = search (needs, c .before .before .before .before .before .before .good .1 .0) in
+    sym (length-take-le _ _ (omega (arith, e, length-most _ (seen (c .before .before .before .fault .ensures) (c .before .before .if1 .left) .length-one))))
 
 decipher-into-requires : tie.Need-decipher-into-requires
-decipher-into-requires c κs = (sym (c .before .before .before .known-length .ensures) ∙ not-false _ (c .before .before .if1 .left), c .before .if2 .left)
+decipher-into-requires c κs =
+    let e : length (c .before .before .before .before .before .before .before .args .keys-hash .bytes) ≡ 32 = search (needs, c .before .before .before .before .before .before .before .good .1 .0) in
+    let s = seen (c .before .before .before .before .fault .ensures) (c .before .before .before .if1 .left) in
+    let a = c .before .before .before .before .before .before .before .args in
+    (ap keyLength (length-take-le (a .l) (a .keys-hash .bytes) (omega (arith, e, length-most _ (s .length-one)))) ∙ s .length-one, s .length-known, s .room-enough)
 
 slice-reshare-prefix-judged : tie.Need-slice-reshare-prefix-judged
-slice-reshare-prefix-judged c = search needs
+slice-reshare-prefix-judged c = search (needs, seen (c .before .before .before .before .before .before .before .fault .ensures) (c .before .before .before .before .before .before .if1 .left) .room-enough)
 
 slice-aggregate-judged : tie.Need-slice-aggregate-judged
-slice-aggregate-judged c = sym (length-take-le _ _ (search needs))
+slice-aggregate-judged c = sym (length-take-le _ _ (search (needs, seen (c .before .before .before .before .before .before .before .before .fault .ensures) (c .before .before .before .before .before .before .before .if1 .left) .room-enough)))
 
 judged-requires : tie.Need-judged-requires
 judged-requires c κs = search needs
@@ -52,55 +50,47 @@ has-record-requires c κs = search needs
 
 clear-requires : tie.Need-clear-requires
 clear-requires c κs =
-    let k = known _ (sym (c .before .before .before .before .before .before .before .before .before .before .before .known-length .ensures) ∙ not-false _ (c .before .before .before .before .before .before .before .before .before .before .if1 .left)) in
-    (omega arith, omega arith)
+    let s = seen (c .before .before .before .before .before .before .before .before .before .before .before .before .fault .ensures) (c .before .before .before .before .before .before .before .before .before .before .before .if1 .left) in
+    let k = known _ (s .length-known) in
+    (omega arith, omega (arith, s .room-enough))
 
 same-length : tie.Need-same-length
 same-length c = search needs
 
-returns-3 : tie.Need-returns-3
-returns-3 c =
-    let a = c .before .before .before .before .before .before .before .before .before .before .before .before .before .before .before .before .before .args in
-    text-refused
-    (a .keys-hash)
-    (a .div-data)
-    (a .record-length)
-    (a .response .now)
-    (a .work .now)
-    (sym (c .before .before .before .before .before .before .before .before .before .before .before .before .before .before .known-length .ensures) ∙ not-false _ (c .before .before .before .before .before .before .before .before .before .before .before .before .before .if1 .left))
-    (c .before .before .before .before .before .before .before .before .before .before .before .before .if2 .left)
+returns-2 : tie.Need-returns-2
+returns-2 c =
+    let a = c .before .before .before .before .before .before .before .before .before .before .before .before .before .before .before .before .before .before .args in
+    text-refused (a .l) (a .keys-hash) (a .div-data) (a .record-length) (a .response .now) (a .work .now)
+    (c .before .before .before .before .before .before .before .before .before .before .before .before .before .before .before .fault .ensures)
+    (c .before .before .before .before .before .before .before .before .before .before .before .before .before .before .if1 .left)
     (c .before .before .before .before .before .before .before .before .before .before .decipher-into .ensures)
     (c .before .before .before .before .before .before .judged .ensures)
     (c .before .before .before .before .before .has-record .ensures)
-    (not-true _ (c .before .before .before .before .if3 .taken))
+    (not-true _ (c .before .before .before .before .if2 .taken))
     (c .before .before .clear .ensures)
 
 same-length-2 : tie.Need-same-length-2
 same-length-2 c = search needs
 
-returns-4 : tie.Need-returns-4
-returns-4 c =
-    let a = c .before .before .before .before .before .before .before .before .before .before .before .before .before .args in
-    text-accepted
-    (a .keys-hash)
-    (a .div-data)
-    (a .record-length)
-    (a .response .now)
-    (a .work .now)
-    (sym (c .before .before .before .before .before .before .before .before .before .before .known-length .ensures) ∙ not-false _ (c .before .before .before .before .before .before .before .before .before .if1 .left))
-    (c .before .before .before .before .before .before .before .before .if2 .left)
+returns-3 : tie.Need-returns-3
+returns-3 c =
+    let a = c .before .before .before .before .before .before .before .before .before .before .before .before .before .before .args in
+    text-accepted (a .l) (a .keys-hash) (a .div-data) (a .record-length) (a .response .now) (a .work .now)
+    (c .before .before .before .before .before .before .before .before .before .before .before .fault .ensures)
+    (c .before .before .before .before .before .before .before .before .before .before .if1 .left)
     (c .before .before .before .before .before .before .decipher-into .ensures)
     (c .before .before .judged .ensures)
     (c .before .has-record .ensures)
-    (not-false _ (c .if3 .left))
+    (not-false _ (c .if2 .left))
 
 pub accept-in-spec : {M : Type 1} → statement M
 accept-in-spec =
     tie.close
     (tie.spec
-    known-length-requires
+    fault-requires
     returns
-    returns-2
+    array-share-prefix-bytes
+    slice-aggregate-hash
     decipher-into-requires
     slice-reshare-prefix-judged
     slice-aggregate-judged
@@ -108,6 +98,6 @@ accept-in-spec =
     has-record-requires
     clear-requires
     same-length
-    returns-3
+    returns-2
     same-length-2
-    returns-4)
+    returns-3)

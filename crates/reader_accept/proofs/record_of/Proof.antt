@@ -7,7 +7,7 @@ use Rattle.reader_accept.proofs.record_of.Statement.{statement}
 use Rattle.reader_accept.proofs.record_of.Tie as tie
 
 slice-aggregate-result : tie.Need-slice-aggregate-result
-slice-aggregate-result c = sym (length-take-le _ _ (search needs))
+slice-aggregate-result c = sym (length-take-le (c .before .before .args .a .length) (c .before .before .args .work .now) (search needs))
 
 returns : tie.Need-returns
 unfolding part

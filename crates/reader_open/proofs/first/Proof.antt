@@ -6,21 +6,24 @@ use mathlib.Core.Bool.{cond}
 use native.Mathlib.Omega.{arith}
 use lib.Dec.{eqb}
 use lib.ListN.{length, take, drop}
+use Rattle.octets.specs.Lists.{part-long}
 use Rattle.steps.specs.Laws.{kept-start}
 use Rattle.reader_open.specs.Open.{opensAs, firstOpen, winner}
-use Rattle.reader_open.proofs.Turns.{long-part, first-turn, first-done}
+use Rattle.reader_open.proofs.Turns.{first-turn, first-done}
 use borrow.Author.Needs.{needs}
 use Rattle.reader_open.proofs.first.Statement.{statement}
 use Rattle.reader_open.proofs.first.Tie as tie
 
 abbrev Inv-loop : tie.InvT-loop
-Inv-loop n blocks ids at₀ i₀ at i = (i ≤ n) × (cond (eqb at n) (firstOpen blocks i (drop i (take n ids))) at ≡ winner ids n blocks)
+Inv-loop l n blocks ids at₀ i₀ at i = (i ≤ n) × (cond (eqb at n) (firstOpen l blocks i (drop i (take n ids))) at ≡ winner l ids n blocks)
 
 abbrev μ-loop : tie.MeasureT-loop
-μ-loop n blocks ids at₀ i₀ at i = n - i
+μ-loop l n blocks ids at₀ i₀ at i = n - i
 
 loop-holds : tie.Need-loop-holds Inv-loop μ-loop
-loop-holds c = (search needs, kept-start (c .before .args .n) (winner (c .before .args .t1) (c .before .args .n) (c .before .args .blocks .now)))
+loop-holds c =
+    let a = c .before .args in
+    (search needs, kept-start (a .n) (winner (a .l) (a .t2) (a .n) (a .blocks .now)))
 
 mul-k : tie.Need-mul-k Inv-loop μ-loop
 mul-k c = search needs
@@ -37,7 +40,7 @@ part-of-requires c κs = search needs
 opens-requires : tie.Need-opens-requires Inv-loop μ-loop
 opens-requires c κs =
     let s = c .before .before .before .before .before in
-    long-part _ _ _ (omega (arith, s .pre .1, c .before .before .loop-test .taken)) (c .part-of .ensures)
+    (s .pre .0, part-long _ _ _ (omega (arith, s .pre .2, c .before .before .loop-test .taken)) (c .part-of .ensures))
 
 keep-requires : tie.Need-keep-requires Inv-loop μ-loop
 keep-requires c κs = search needs
@@ -52,18 +55,18 @@ loop-again : tie.Need-loop-again Inv-loop μ-loop
 loop-again c =
     let s = c .before .before .before .before .before .before .before .args in
     let q = c .before .before .before .before .before .loop in
-    let l : length (s .t1) ≡ 16 = search needs in (
+    let k : length (s .t2) ≡ 16 = search needs in (
       search needs,
-      first-turn (s .blocks .now) (s .t1) (s .n) (q .i) (q .at) (c .before .before .before .before .loop-test .taken) (omega (arith, c .before .before .before .before .before .before .before .pre .0))
-          (c .before .opens .ensures ∙ ap (opensAs _) (c .before .before .part-of .ensures)) (c .keep .ensures) (q .inv .1),
+      first-turn (s .l) (s .blocks .now) (s .t2) (s .n) (q .i) (q .at) (c .before .before .before .before .loop-test .taken) (omega (arith, c .before .before .before .before .before .before .before .pre .1))
+          (c .before .opens .ensures ∙ ap (opensAs _ _) (c .before .before .part-of .ensures)) (c .keep .ensures) (q .inv .1),
     )
 
 returns : tie.Need-returns Inv-loop μ-loop
 returns c =
     let s = c .before .before .before .args in
     let q = c .before .loop in
-    let l : length (s .t1) ≡ 16 = search needs in
-    first-done (s .blocks .now) (s .t1) (s .n) (q .i) (q .at) (omega (arith, c .loop-test .left, q .inv .0)) (omega (arith, c .before .before .before .pre .0)) (q .inv .1)
+    let k : length (s .t2) ≡ 16 = search needs in
+    first-done (s .l) (s .blocks .now) (s .t2) (s .n) (q .i) (q .at) (omega (arith, c .loop-test .left, q .inv .0)) (omega (arith, c .before .before .before .pre .1)) (q .inv .1)
 
 pub first-spec : {M : Type 1} → statement M
 first-spec =

@@ -1,6 +1,10 @@
 -- `handed` meets its contract: the parts are those of the definition. Assumes nothing.
+use mathlib.Core.Path.{ap, _∙_}
 use native.Mathlib.Omega.{arith}
-use Rattle.reader_open.proofs.Turns.{long-part}
+use lib.ListN.{length}
+use Rattle.octets.specs.Lists.{part-long}
+use Rattle.plaid_types.specs.Keys.{str1Length}
+use Rattle.reader_open.specs.Laws.{text-long}
 use borrow.Author.Needs.{needs}
 use Rattle.reader_open.proofs.handed.Statement.{statement}
 use Rattle.reader_open.proofs.handed.Tie as tie
@@ -11,25 +15,32 @@ mul-part-of c = search needs
 part-of-requires : tie.Need-part-of-requires
 part-of-requires c κs = search needs
 
-part-of-requires-2 : tie.Need-part-of-requires-2
-part-of-requires-2 c κs =
-    let s = c .before .before in
-    omega (arith, long-part _ _ _ (s .pre) (c .part-of .ensures))
+text-of-requires : tie.Need-text-of-requires
+text-of-requires c κs = let s = c .before .before in (s .pre .0, part-long _ _ _ (s .pre .1) (c .part-of .ensures))
 
 block-at-requires : tie.Need-block-at-requires
+unfolding str1Length
 block-at-requires c κs =
     let s = c .before .before .before in
-    let l = long-part _ _ _ (s .pre) (c .before .part-of .ensures) in
-    omega (arith, long-part _ 206 50 (omega arith) (c .part-of2 .ensures))
+    let t = ap length (c .text-of .ensures) ∙ text-long (s .args .l) (s .pre .0) _ (part-long _ _ _ (s .pre .1) (c .before .part-of .ensures)) in
+    omega arith
 
-block-at-requires-2 : tie.Need-block-at-requires-2
-block-at-requires-2 c κs =
+part-of-requires-2 : tie.Need-part-of-requires-2
+unfolding str1Length
+part-of-requires-2 c κs =
     let s = c .before .before .before .before in
-    let l = long-part _ _ _ (s .pre) (c .before .before .part-of .ensures) in
-    omega (arith, long-part _ 206 50 (omega arith) (c .before .part-of2 .ensures))
+    let t = ap length (c .before .text-of .ensures) ∙ text-long (s .args .l) (s .pre .0) _ (part-long _ _ _ (s .pre .1) (c .before .before .part-of .ensures)) in
+    omega arith
+
+of-requires : tie.Need-of-requires
+unfolding str1Length
+of-requires c κs =
+    let s = c .before .before .before .before .before in
+    let t = ap length (c .before .before .text-of .ensures) ∙ text-long (s .args .l) (s .pre .0) _ (part-long _ _ _ (s .pre .1) (c .before .before .before .part-of .ensures)) in
+    omega (arith, s .pre .0, part-long _ _ _ (omega arith) (c .part-of2 .ensures))
 
 returns : tie.Need-returns
-returns c = simp (c .block-at2 .ensures, c .before .block-at .ensures, c .before .before .part-of2 .ensures, c .before .before .before .part-of .ensures)
+returns c = simp (c .of .ensures, c .before .part-of2 .ensures, c .before .before .block-at .ensures, c .before .before .before .text-of .ensures, c .before .before .before .before .part-of .ensures)
 
 pub handed-spec : {M : Type 1} → statement M
 handed-spec =
@@ -37,7 +48,8 @@ handed-spec =
     (tie.spec
     mul-part-of
     part-of-requires
-    part-of-requires-2
+    text-of-requires
     block-at-requires
-    block-at-requires-2
+    part-of-requires-2
+    of-requires
     returns)

@@ -1,42 +1,42 @@
--- `reader_seal::diversified` meets its contract by those of AES's two steps, with the rows of a key of sixteen bytes. Assumes nothing.
+-- `reader_seal::diversified` meets its contract: the rows that are lent are the FAKey's. Assumes nothing.
 use borrow.Author.Needs.{needs}
-use mathlib.Core.Path.{_≡_, sym, _∙_}
+use mathlib.Core.Path.{_≡_, sym, ap}
 use native.Mathlib.Omega.{arith}
 use lib.ListN.{length}
-use lib.Seq.{length-take-le}
-use Rattle.reader_seal.specs.Seal.{diversifiedBy}
-use Rattle.key_expansion.specs.KeyLength.{length-sixteen}
-use Rattle.reader_seal.proofs.Writes.{by-eleven}
+use Rattle.key_expansion.specs.KeyLength.{length-most}
+use Rattle.aes.specs.Rows.{lent, length-lent}
+use Rattle.diversification.specs.declared.Diversified.{Diversified}
 use Rattle.reader_seal.proofs.diversified.Statement.{statement}
 use Rattle.reader_seal.proofs.diversified.Tie as tie
 
-slice-aggregate-expand : tie.Need-slice-aggregate-expand
-slice-aggregate-expand c = search needs
-
 expand-requires : tie.Need-expand-requires
-expand-requires c κs = length-sixteen (search needs)
+expand-requires c κs = search needs
 
-array-share-prefix-w : tie.Need-array-share-prefix-w
-array-share-prefix-w c = search needs
+add-n : tie.Need-add-n
+add-n c = search needs
 
-slice-aggregate-encipher : tie.Need-slice-aggregate-encipher
-slice-aggregate-encipher c =
-    let w = c .before .expand .result in
-    let l : length w ≡ 15 = search needs in
-    sym (length-take-le 11 w (omega arith))
+array-share-prefix-rows : tie.Need-array-share-prefix-rows
+array-share-prefix-rows c =
+    let p = c .before .before in
+    let long : length (c .expand .result) ≡ 15 = search needs in
+    omega (arith, long, length-most (length (p .args .fa-key .now)) (p .pre .1))
 
-encipher-requires : tie.Need-encipher-requires
-encipher-requires c κs =
-    let w = c .before .expand .result in
-    let l : length w ≡ 15 = search needs in
-    omega (arith, length-take-le 11 w (omega arith))
+slice-aggregate-diversify : tie.Need-slice-aggregate-diversify
+slice-aggregate-diversify c = let k = c .before .before .before .args .fa-key .now in sym (length-lent k (c .before .expand .ensures))
+
+diversify-requires : tie.Need-diversify-requires
+diversify-requires c κs = let p = c .before .before .before in (p .pre .0, p .pre .1, lent (p .args .fa-key .now) (c .before .expand .ensures))
 
 returns : tie.Need-returns
-unfolding diversifiedBy
-returns c =
-    let a = c .before .before .before .before .args in
-    c .encipher .ensures ∙ by-eleven (a .t1) (a .div) (search needs) (c .before .before .expand .ensures)
+returns c = ap (λ (d : Diversified). d .key) (c .before .diversify .ensures)
 
 pub diversified-spec : {M : Type 1} → statement M
 diversified-spec =
-    tie.close (tie.spec slice-aggregate-expand expand-requires array-share-prefix-w slice-aggregate-encipher encipher-requires returns)
+    tie.close
+    (tie.spec
+    expand-requires
+    add-n
+    array-share-prefix-rows
+    slice-aggregate-diversify
+    diversify-requires
+    returns)

@@ -1,18 +1,19 @@
 -- `reader_seal::write_command` meets its contract: its bytes are written one behind the other (`command-writes`). Assumes nothing.
 use borrow.Author.Needs.{needs}
 use mathlib.Core.Path.{_≡_, sym, ap, _∙_}
-use Prim.Native.Nat.{_+_, _-_}
+use mathlib.Core.List.{List}
+use Prim.Native.Nat.{ℕ, _+_, _-_}
 use native.Mathlib.Omega.{arith}
 use lib.ListN.{length}
 use Rattle.octets.specs.Lists.{over}
-use Rattle.reader_seal.specs.Seal.{lcOf}
-use Rattle.reader_seal.specs.Laws.{length-sealedData}
+use Rattle.reader_seal.specs.Seal.{sealedData}
+use Rattle.reader_seal.specs.Laws.{length-sealedData, lc-most}
 use Rattle.reader_seal.proofs.Writes.{put-over, command-writes}
 use Rattle.reader_seal.proofs.write_command.Statement.{statement}
 use Rattle.reader_seal.proofs.write_command.Tie as tie
 
-cast-t11 : tie.Need-cast-t11
-cast-t11 c = search needs
+cast-t13 : tie.Need-cast-t13
+cast-t13 c = let p = c .before .before .before .before .before .pre in search (needs, lc-most _ _ (p .1) (p .5))
 
 slice-aggregate-copy-at : tie.Need-slice-aggregate-copy-at
 slice-aggregate-copy-at c = search needs
@@ -33,7 +34,9 @@ part-write-data-end : tie.Need-part-write-data-end
 part-write-data-end c = search needs
 
 write-data-requires : tie.Need-write-data-requires
-write-data-requires c κs = search needs
+write-data-requires c κs =
+    let p = c .before .before .before .before .before .before .before .before .before .before .before in
+    (p .pre .0, p .pre .1, search needs, search needs, search needs, search needs)
 
 slice-aggregate-copy-at-2 : tie.Need-slice-aggregate-copy-at-2
 slice-aggregate-copy-at-2 c = search needs
@@ -46,22 +49,26 @@ same-length c = search needs
 
 returns : tie.Need-returns
 returns c =
-    let s = c .before .before .before .before .before .before .before .before .before .before .before .before .before .before .before .before in
-    let m : lcOf (length (s .args .payload .now)) ≡ 5 + s .args .lc - 5 = omega (arith, s .pre .1) in
+    let s = c .before .before .before .before .before .before .before .before .before .before .before .before .before .before .before .before .before .before .before in
+    let a = s .args in
+    let d : List ℕ = sealedData (a .l) (a .key .now) (a .mode) (a .rnd2 .now) (a .payload .now) (a .hash .now) in
+    let long : length d ≡ a .lc = length-sealedData (a .l) (a .key .now) (a .mode) (a .rnd2 .now) (a .payload .now) (a .hash .now) ∙ sym (s .pre .6) in
+    let m : a .lc ≡ 5 + a .lc - 5 = omega arith in
+    let w = c .before .before .before .before .before .before .before .write-data .ensures in
     command-writes
-    (s .args .lc)
-    _
-    _
-    (length-sealedData _ _ _ _ _ ∙ sym (s .pre .1))
+    (a .lc)
+    d
+    (a .out .now)
+    long
     (c .before .before .before .before .before .before .before .before .before .before .before .copy-at .ensures)
-    (put-over _ _ 5 (5 + s .args .lc - 5) (ap length (c .before .before .before .before .before .before .before .write-data .ensures) ∙ length-sealedData _ _ _ _ _ ∙ m) ∙ ap (over _ 5) (c .before .before .before .before .before .before .before .write-data .ensures))
+    (put-over _ _ 5 (5 + a .lc - 5) (ap length {y = d} w ∙ long ∙ m) ∙ ap (over _ 5) {y = d} w)
     (c .before .before .copy-at2 .ensures)
 
 pub write-command-spec : {M : Type 1} → statement M
 write-command-spec =
     tie.close
     (tie.spec
-    cast-t11
+    cast-t13
     slice-aggregate-copy-at
     copy-at-requires
     add-end

@@ -5,13 +5,16 @@ use Rattle.speed.proofs.decipher.Statement.{statement}
 use Rattle.speed.proofs.decipher.Tie as tie
 
 abbrev Inv-loop : tie.InvT-loop
-Inv-loop n w times b₀ i₀ b i = Unit {0}
+Inv-loop n w times b₀ table i₀ b i = Unit {0}
 
 abbrev μ-loop : tie.MeasureT-loop
-μ-loop n w times b₀ i₀ b i = times - i
+μ-loop n w times b₀ table i₀ b i = times - i
 
 ciphertext-requires : tie.Need-ciphertext-requires Inv-loop μ-loop
 ciphertext-requires c κs = search needs
+
+inv-byte-table-requires : tie.Need-inv-byte-table-requires Inv-loop μ-loop
+inv-byte-table-requires c κs = search needs
 
 loop-holds : tie.Need-loop-holds Inv-loop μ-loop
 loop-holds c = search needs
@@ -38,6 +41,7 @@ decipher-spec =
     Inv-loop
     μ-loop
     ciphertext-requires
+    inv-byte-table-requires
     loop-holds
     decipher-requires
     add-i

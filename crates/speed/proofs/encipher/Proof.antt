@@ -5,16 +5,19 @@ use Rattle.speed.proofs.encipher.Statement.{statement}
 use Rattle.speed.proofs.encipher.Tie as tie
 
 abbrev Inv-loop : tie.InvT-loop
-Inv-loop w times b₀ i₀ b i = Unit {0}
+Inv-loop w times b₀ table i₀ b i = Unit {0}
 
 abbrev μ-loop : tie.MeasureT-loop
-μ-loop w times b₀ i₀ b i = times - i
+μ-loop w times b₀ table i₀ b i = times - i
 
 slice-aggregate-block : tie.Need-slice-aggregate-block Inv-loop μ-loop
 slice-aggregate-block c = search needs
 
 block-requires : tie.Need-block-requires Inv-loop μ-loop
 block-requires c κs = search needs
+
+byte-table-requires : tie.Need-byte-table-requires Inv-loop μ-loop
+byte-table-requires c κs = search needs
 
 loop-holds : tie.Need-loop-holds Inv-loop μ-loop
 loop-holds c = search needs
@@ -42,6 +45,7 @@ encipher-spec =
     μ-loop
     slice-aggregate-block
     block-requires
+    byte-table-requires
     loop-holds
     encipher-requires
     add-i

@@ -8,19 +8,24 @@ use Rattle.speed.proofs.expand.Statement.{statement}
 use Rattle.speed.proofs.expand.Tie as tie
 
 abbrev Inv-loop : tie.InvT-loop
-Inv-loop key₀ times last i₀ key i = (length key ≡ length key₀) × (16 ≤ length key₀) × (last < 15)
+Inv-loop key₀ times last table i₀ key i = (length key ≡ length key₀) × (16 ≤ length key₀) × (last < 15)
 
 abbrev μ-loop : tie.MeasureT-loop
-μ-loop key₀ times last i₀ key i = times - i
+μ-loop key₀ times last table i₀ key i = times - i
 
 add-last : tie.Need-add-last Inv-loop μ-loop
 add-last c = search needs
 
+byte-table-requires : tie.Need-byte-table-requires Inv-loop μ-loop
+byte-table-requires c κs = search needs
+
 loop-holds : tie.Need-loop-holds Inv-loop μ-loop
-loop-holds c = let p = c .before in search (needs, length-least _ (p .pre), length-most _ (p .pre))
+loop-holds c = let p = c .before .before in search (needs, length-least _ (p .pre), length-most _ (p .pre))
 
 expand-requires : tie.Need-expand-requires Inv-loop μ-loop
-expand-requires c κs = ap keyLength (c .before .before .loop .inv .0) ∙ c .before .before .before .before .pre
+expand-requires c κs =
+    let l = c .before .before .before in
+    (l .before .byte-table .ensures, ap keyLength (l .loop .inv .0) ∙ l .before .before .before .pre)
 
 mul-put-row : tie.Need-mul-put-row Inv-loop μ-loop
 mul-put-row c = search needs
@@ -56,6 +61,7 @@ expand-spec =
     Inv-loop
     μ-loop
     add-last
+    byte-table-requires
     loop-holds
     expand-requires
     mul-put-row

@@ -7,8 +7,7 @@ use lib.ListN.{length, take}
 use Rattle.key_expansion.specs.KeyLength.{length-most}
 use Rattle.key_expansion.specs.KeyExpansion.{roundKeys}
 use Rattle.key_expansion.specs.Schedule.{fifteen}
-use Rattle.key_expansion.specs.Filling.{length-roundKeys}
-use Rattle.aes.specs.Rows.{take-fifteen}
+use Rattle.aes.specs.Rows.{lent, length-lent}
 use Rattle.work.specs.Steps.{expansion, mixed, mixedAll, sumFrom}
 use Rattle.work.specs.Laws.{mixedAll-append}
 use Rattle.steps.specs.declared.Expanded.{Expanded}
@@ -24,10 +23,6 @@ summed : (key : List ℕ) (w : List (List ℕ)) (s : ℕ) → mixedAll (mixedAll
 summed key w s =
     sym (mixedAll-append (mixed s expansion) key (flatten w))
     ∙ ap (λ (l : List ℕ). mixedAll (mixed s expansion) (l ++ flatten w)) (sym (append-nil key))
-
--- the rows that are lent are the round keys
-lent : (key : List ℕ) {w : List (List ℕ)} → w ≡ fifteen (length key / 4) key → take (length key / 4 + 7) w ≡ roundKeys (length key / 4) key
-lent key e = ap (take (length key / 4 + 7)) e ∙ take-fifteen (length key / 4) key
 
 same : (key : List ℕ) (s : ℕ) {w : List (List ℕ)} {a b d : ℕ} → w ≡ fifteen (length key / 4) key → a ≡ mixed s expansion → b ≡ mixedAll a key → d ≡ mixedAll b (flatten (take (length key / 4 + 7) w)) →
     made w d ≡ made (fifteen (length key / 4) key) (sumFrom s (expansionStep key ∷ []))
@@ -54,15 +49,18 @@ array-share-prefix-rows : tie.Need-array-share-prefix-rows
 array-share-prefix-rows c =
     let p = c .before .before .before .before in
     let long : length (c .before .before .expand .result) ≡ 15 = search needs in
-    omega (arith, long, length-most (length (p .args .key .now)) (p .pre))
+    omega (arith, long, length-most (length (p .args .key .now)) (p .pre .1))
 
 slice-aggregate-mix-rows : tie.Need-slice-aggregate-mix-rows
 slice-aggregate-mix-rows c =
     let k = c .before .before .before .before .before .args .key .now in
-    sym (ap length (lent k (c .before .before .before .expand .ensures)) ∙ length-roundKeys (length k / 4) k)
+    sym (length-lent k (c .before .before .before .expand .ensures))
 
 mix-rows-requires : tie.Need-mix-rows-requires
-mix-rows-requires c κs = search needs
+mix-rows-requires c κs =
+    let p = c .before .before .before .before .before in
+    let k = p .args .key .now in
+    omega (arith, length-lent k (c .before .before .before .expand .ensures), length-most (length k) (p .pre .1))
 
 together-requires : tie.Need-together-requires
 together-requires c κs = search needs

@@ -11,13 +11,19 @@ use Rattle.work.proofs.mix_rows.Statement.{statement}
 use Rattle.work.proofs.mix_rows.Tie as tie
 
 abbrev Inv-loop : tie.InvT-loop
-Inv-loop s rows sum₀ row₀ sum row = (row ≤ length rows) × (mixedAll sum (flatten (drop row rows)) ≡ mixedAll s (flatten rows))
+Inv-loop s rows n sum₀ row₀ sum row = (row ≤ length rows) × (mixedAll sum (flatten (drop row rows)) ≡ mixedAll s (flatten rows))
 
 abbrev μ-loop : tie.MeasureT-loop
-μ-loop s rows sum₀ row₀ sum row = length rows - row
+μ-loop s rows n sum₀ row₀ sum row = length rows - row
+
+cast-n : tie.Need-cast-n Inv-loop μ-loop
+cast-n c = search needs
 
 loop-holds : tie.Need-loop-holds Inv-loop μ-loop
 loop-holds c = (search needs, refl)
+
+cast-mix-block : tie.Need-cast-mix-block Inv-loop μ-loop
+cast-mix-block c = search needs
 
 mul-mix-block : tie.Need-mul-mix-block Inv-loop μ-loop
 mul-mix-block c = search needs
@@ -48,7 +54,9 @@ mix-rows-spec =
     (tie.spec
     Inv-loop
     μ-loop
+    cast-n
     loop-holds
+    cast-mix-block
     mul-mix-block
     shared-slice-copy-out-mix-block
     mix-block-requires

@@ -14,6 +14,9 @@ Inv-loop n w₀ k₀ w k = (k ≤ n) × (w ≡ weight k)
 abbrev μ-loop : tie.MeasureT-loop
 μ-loop n w₀ k₀ w k = n - k
 
+returns : tie.Need-returns Inv-loop μ-loop
+returns c = ap weight (sym (c .if1 .taken))
+
 loop-holds : tie.Need-loop-holds Inv-loop μ-loop
 loop-holds c = (search needs, refl)
 
@@ -37,13 +40,13 @@ loop-again c =
     let l = c .before .loop in
     (omega arith, ap (λ (x : ℕ). 257 * x % 2 ^ 32) (l .inv .1) ∙ sym (up (l .k)) ∙ ap weight (sym (add-one (l .k))))
 
-returns : tie.Need-returns Inv-loop μ-loop
-returns c =
+returns-2 : tie.Need-returns-2 Inv-loop μ-loop
+returns-2 c =
     let l = c .before .loop in
-    let e : l .k ≡ c .before .before .args .n = omega arith in
+    let e : l .k ≡ c .before .before .before .args .n = omega arith in
     l .inv .1 ∙ ap weight e
 
 pub weight-of-spec : {M : Type 1} → statement M
 weight-of-spec =
     tie.close
-    (tie.spec Inv-loop μ-loop loop-holds cast-w mul-w cast-w-2 add-k loop-less loop-again returns)
+    (tie.spec Inv-loop μ-loop returns loop-holds cast-w mul-w cast-w-2 add-k loop-less loop-again returns-2)
