@@ -1,6 +1,7 @@
 /*
  * PLAID (ISO/IEC 25185-1), both ends: the card's load and commands, and the
- * reader's List, Open, Seal and Accept. This header is their manual.
+ * reader's List, Open, Seal and Accept; and the door system's numbers, from
+ * text to record and back. This header is their manual.
  *
  * Link with libplaid.a, for x86-64 Linux. C99 or later, or C++.
  *
@@ -20,6 +21,24 @@
  *
  * To a stranger a card never refuses. A refused command is answered like an
  * accepted one, with the same length and status 9000, under the shill keys.
+ *
+ * Door numbers
+ *
+ *   A door system exports Wiegand numbers and UUIDs as text; a card holds them
+ *   as records of 4 and 16 bytes. Before a load the personaliser turns text to
+ *   record, and behind Accept the reader turns a record to text:
+ *
+ *     a Wiegand number   plaid_wiegand_record   plaid_wiegand_text
+ *     a UUID             plaid_uuid_record      plaid_uuid_text
+ *
+ *   There and back, a record that is not refused is the same record, and a text
+ *   the same text, but for capitals. A text is its characters in ASCII, one
+ *   byte each, and nothing else: no NUL and no line end behind them, no blank,
+ *   no brace. Take a line's end off before the call, and add a NUL after it.
+ *
+ *   These four are no part of a session. To load, command and Accept a record
+ *   is any bytes: they look for no parity, and a card may hold a record of 4 or
+ *   16 bytes that is no door number.
  *
  * Key length
  *
@@ -118,8 +137,9 @@
  *
  * Secrets. A card holds its keys and records as they are. FAKeys, the shill
  * key, fresh bytes, RND1, RND2, KeysHash, a block before encryption or after
- * decryption, and the record are secrets. The caller erases its copies, a card
- * that was replaced too, by a function that no compiler leaves out.
+ * decryption, and the record, as bytes and as text, are secrets. The caller
+ * erases its copies, a card that was replaced too, by a function that no
+ * compiler leaves out.
  */
 #ifndef PLAID_H
 #define PLAID_H
@@ -165,6 +185,11 @@ typedef char plaid_size_is_64_bits[sizeof(size_t) == 8 ? 1 : -1];
 #define PLAID_ANSWER_FINAL_LEAST 32     /* answer to a final command: 16 B, */
 #define PLAID_ANSWER_FINAL_MOST 96      /* so 32, 48, 64, 80 or 96 */
 
+#define PLAID_WIEGAND_TEXT 26           /* a Wiegand number as text */
+#define PLAID_WIEGAND_RECORD 4          /* and as a record */
+#define PLAID_UUID_TEXT 36              /* a UUID as text */
+#define PLAID_UUID_RECORD 16            /* and as a record */
+
 /*
  * Sizes that depend on L, which is 16, 24 or 32. Each is a constant expression
  * where L is one.
@@ -202,6 +227,10 @@ typedef char plaid_size_is_64_bits[sizeof(size_t) == 8 ? 1 : -1];
 #define PLAID_STACK_SEAL 1680
 #define PLAID_STACK_ACCEPT 1296
 #define PLAID_STACK_RECORD 16
+#define PLAID_STACK_WIEGAND_RECORD 112
+#define PLAID_STACK_WIEGAND_TEXT 80
+#define PLAID_STACK_UUID_RECORD 176
+#define PLAID_STACK_UUID_TEXT 16
 
 /*
  * Status of a command's answer (ISO/IEC 7816-4)
@@ -251,6 +280,16 @@ typedef char plaid_size_is_64_bits[sizeof(size_t) == 8 ? 1 : -1];
 #define PLAID_DECLINE_RESPONSE 18         /* no length that an answer has */
 #define PLAID_DECLINE_WORK 19             /* work buffer too short */
 #define PLAID_DECLINE_AUTHENTICATION 20   /* not authenticated */
+/* plaid_wiegand_record, plaid_wiegand_text, plaid_uuid_record,
+   plaid_uuid_text: first of all */
+#define PLAID_DECLINE_CONVERSION_LENGTH 23 /* input of a wrong length, or
+                                             output too short */
+/* plaid_wiegand_record, plaid_uuid_record, behind 23 */
+#define PLAID_DECLINE_BAD_CHARACTER 25    /* a character that is none of the
+                                             text's, or at a wrong place */
+/* plaid_wiegand_record, behind 25; plaid_wiegand_text, behind 23 */
+#define PLAID_DECLINE_PARITY 24           /* wrong parity, or a bit above the
+                                             26 */
 
 /*
  * The two identifiers. They are types of their own, so that a compiler refuses
@@ -707,6 +746,111 @@ typedef struct plaid_part {
  */
 plaid_part plaid_record(const uint8_t *work, size_t work_len,
                         plaid_accepted of);
+
+/*
+ * Door numbers
+ *
+ * Each of the four functions takes all bytes of a text or a record, and an
+ * output of at least the other's size. See "Door numbers" above.
+ */
+
+typedef struct plaid_converted {
+    uint8_t number;                     /* 0, or 23 to 25 */
+    size_t length;                      /* of what was written */
+} plaid_converted;
+
+/*
+ * A Wiegand number has 26 bits. In their order:
+ *
+ *   1 bit     even parity: with the first 12 of the 24 data bits behind it an
+ *             even number of ones
+ *   8 bits    data: facility, 0 to 255, high bit first
+ *   16 bits   data: number, 0 to 65535, high bit first
+ *   1 bit     odd parity: with the last 12 data bits, those before it, an odd
+ *             number of ones
+ *
+ * As text they are 26 characters, 0 or 1. As a record they are the low 26 bits
+ * of 4 bytes, high byte first, with zeros above: the first byte is 00 to 03,
+ * and its bit of value 2 is the even parity. So in a record r of 32 bits the
+ * facility is r >> 17 & 255 and the number r >> 1 & 65535.
+ *
+ *   facility 21, number 4711:   text     00001010100010010011001111
+ *                               record   00 2A 24 CF
+ */
+
+/*
+ * A Wiegand number from text to record.
+ *
+ * In: a text of 26 characters, and an output of at least 4 bytes.
+ *
+ * Back: number 0 and the record's length, 4.
+ *
+ * Declines, in the order in which they are tested:
+ *   23  text_len is not 26, or out_len is below 4
+ *   25  a character is neither 0 nor 1, the bytes 30 and 31
+ *   24  the even or the odd parity is wrong
+ *
+ * Written: the record, and no byte behind it. After a decline nothing.
+ */
+plaid_converted plaid_wiegand_record(const uint8_t *text, size_t text_len,
+                                     uint8_t *out, size_t out_len);
+
+/*
+ * A Wiegand number from record to text.
+ *
+ * In: a record of 4 bytes, and an output of at least 26.
+ *
+ * Back: number 0 and the text's length, 26.
+ *
+ * Declines, in the order in which they are tested:
+ *   23  record_len is not 4, or out_len is below 26
+ *   24  one of the six bits above the 26 is set, or the even or the odd parity
+ *       is wrong; one number for all. The record is no Wiegand number
+ *
+ * Written: the text, and no byte behind it: no NUL. After a decline nothing.
+ */
+plaid_converted plaid_wiegand_text(const uint8_t *record, size_t record_len,
+                                   uint8_t *out, size_t out_len);
+
+/*
+ * A UUID (RFC 4122) from text to record.
+ *
+ * In: a text of 36 characters, and an output of at least 16 bytes. The text is
+ * the record's bytes in their order, two hexadecimal digits for each, with a
+ * hyphen behind the 4th, 6th, 8th and 10th byte:
+ *
+ *   f81d4fae-7dec-11d0-a765-00a0c91e6bf6
+ *
+ * A digit is 0 to 9, a to f or A to F; capitals and small letters may stand in
+ * one text. Neither urn:uuid: before it nor braces around it are taken.
+ *
+ * Back: number 0 and the record's length, 16. Any version and variant is taken,
+ * the nil UUID too.
+ *
+ * Declines, in the order in which they are tested:
+ *   23  text_len is not 36, or out_len is below 16
+ *   25  at the places 8, 13, 18 and 23, counted from 0, is no hyphen, or at any
+ *       other no hexadecimal digit
+ *
+ * Written: the record, and no byte behind it. After a decline nothing.
+ */
+plaid_converted plaid_uuid_record(const uint8_t *text, size_t text_len,
+                                  uint8_t *out, size_t out_len);
+
+/*
+ * A UUID from record to text, with small letters.
+ *
+ * In: a record of 16 bytes, whatever they are, and an output of at least 36.
+ *
+ * Back: number 0 and the text's length, 36.
+ *
+ * Declines:
+ *   23  record_len is not 16, or out_len is below 36
+ *
+ * Written: the text, and no byte behind it: no NUL. After a decline nothing.
+ */
+plaid_converted plaid_uuid_text(const uint8_t *record, size_t record_len,
+                                uint8_t *out, size_t out_len);
 
 #ifdef __cplusplus
 }

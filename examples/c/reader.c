@@ -1,6 +1,7 @@
 /*
  * A reader: writes its commands to standard output and reads the card's answers from standard input, each a line of hexadecimal bytes.
- * The record goes to standard error, as such bytes too, or why there is none.
+ * The record goes to standard error, as such bytes too, or why there is none. Behind one of 4 or 16 bytes stands its door form, or the
+ * number by which the library refuses it as a door number: the record is the card's all the same.
  *
  *   reader [-LBYTES] MODE[:LENGTH] [KEYS [FAKEY]]
  *
@@ -13,6 +14,7 @@
  * Exit status: 0 with a record; 1 where the library declined, whose number is told; 2 usage; 101 to 106 the fault that is told
  * (reader_end.h). An answer that is no hexadecimal is named with its line's number and ends the session: fault 102.
  */
+#include "door.h"
 #include "example.h"
 #include "hex.h"
 #include "platform.h"
@@ -65,6 +67,17 @@ static bool take_mode(char *text, reader_plan *plan)
     return known != NULL;
 }
 
+static void tell_record(const uint8_t *record, size_t length)
+{
+    fprintf(stderr, "record: ");
+    hex_write(stderr, record, length);
+    if (!door_has(length))
+        return;
+    fprintf(stderr, "door: ");
+    door_write(stderr, record, length);
+    fprintf(stderr, "\n");
+}
+
 /* Runs a session and tells how it ended. Returns the exit status. */
 static int tell(const reader_plan *plan)
 {
@@ -76,12 +89,10 @@ static int tell(const reader_plan *plan)
         fprintf(stderr, "reader: %s\n", platform_trouble());
     int number = keys ? reader_run(plan, &s) : READER_NO_KEY;
     reader_words(number, &s, words, sizeof words);
-    if (number == PLAID_DONE) {
-        fprintf(stderr, "record: ");
-        hex_write(stderr, s.work + s.record.start, s.record.length);
-    } else {
+    if (number == PLAID_DONE)
+        tell_record(s.work + s.record.start, s.record.length);
+    else
         fprintf(stderr, "reader: no record, %s\n", words);
-    }
     reader_forget(&s);
     return number >= READER_NO_KEY ? number : number != PLAID_DONE;
 }

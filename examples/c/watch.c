@@ -1,11 +1,13 @@
 /*
  * Sessions to watch: a card and a reader on the bench, for each of the card's two records, each message with its fields in words; one that
  * another maker's list opens; one with keys of 24 bytes, one with keys of 32; then one refused session of each kind, as a stranger sees it
- * and as the key holder sees it; and what the library declines for its lengths. Exit status 1 where something was not as expected.
+ * and as the key holder sees it; and what the library declines for its lengths. Each record stands in the door system's form too; at the
+ * end such texts become the records again, and others are declined. Exit status 1 where something was not as expected.
  *
  *   watch [KEYS]      KEYS: the folder of RSA keys; none: the stand-in, which the output names
  */
 #include "bench.h"
+#include "door.h"
 #include "platform.h"
 
 #include <stdio.h>
@@ -147,6 +149,15 @@ static size_t body_length(const bench *b)
     return end < PLAID_DIV_DATA + 1 ? 0 : end - PLAID_DIV_DATA - 1; /* the padding begins with 80 */
 }
 
+/* A record handed back, and its door form. */
+static void show_handed_back(const uint8_t *record, size_t length)
+{
+    show_field("record", record, length, "handed back");
+    printf("    door form   ");
+    door_write(stdout, record, length);
+    printf("\n");
+}
+
 static void show_record(const bench *b)
 {
     const plaid_part *part = &b->session.record;
@@ -156,7 +167,7 @@ static void show_record(const bench *b)
     show_rows(b->final.reply.bytes, b->final.answer_len);
     printf("    Enciphered under KeysHash. The reader, which knows that the record of mode\n");
     printf("    %04X has %zu bytes, accepts it:\n", b->plan.mode.value, b->plan.record_length);
-    show_field("record", record, part->length, "handed back");
+    show_handed_back(record, part->length);
     if (body > part->length)
         show_field("filler", record + part->length, body - part->length, "not looked at");
     else
@@ -193,6 +204,20 @@ static bool record_is(const bench *b, const example_mode *mode)
         && memcmp(b->session.work + b->session.record.start, b->card.area + slot->start, slot->len) == 0;
 }
 
+/* It is a door number, and from its text it comes again. */
+static bool door_comes_back(const bench *b)
+{
+    const uint8_t *record = b->session.work + b->session.record.start;
+    size_t length = b->session.record.length;
+    char text[DOOR_TEXT];
+    uint8_t again[PLAID_UUID_RECORD];
+    bool ok = door_has(length) && door_text(record, length, text) == PLAID_DONE && door_record(text, again, length) == PLAID_DONE
+        && memcmp(again, record, length) == 0;
+    platform_erase(text, sizeof text);
+    platform_erase(again, sizeof again);
+    return ok;
+}
+
 /* What the card sends is as long, and its status 9000. */
 static bool answered_alike(const bench *a, const bench *b)
 {
@@ -215,7 +240,7 @@ static bool alike_on_the_line(const bench *a, const bench *b)
 static bool watch_good(bench *b, size_t key_length, const example_mode *mode)
 {
     static const bench_fault none;
-    if (!bench_run(b, key_length, mode, none) || b->number != PLAID_DONE || !record_is(b, mode)
+    if (!bench_run(b, key_length, mode, none) || b->number != PLAID_DONE || !record_is(b, mode) || !door_comes_back(b)
         || b->final.command_len != PLAID_FINAL_COMMAND_LEAST(key_length))
         return false;
     if (key_length == EXAMPLE_KEY_LENGTH) {
@@ -284,7 +309,7 @@ static bool watch_other_list(const bench *good)
         explain_initial(&b);
         printf("    card     makes %zu comparisons: 8 for every 4 whole bytes of data\n", b.initial.reply.told.comparisons);
         printf("    reader   Accept gives the record\n");
-        show_field("record", b.session.work + b.session.record.start, b.session.record.length, "handed back");
+        show_handed_back(b.session.work + b.session.record.start, b.session.record.length);
     }
     bench_forget(&b);
     return ok;
@@ -374,6 +399,63 @@ static bool watch_declined(const bench *good)
     return ok;
 }
 
+/* The example card's records as the door system exports them: its texts become the records that the card was loaded with. */
+static bool watch_door_records(const bench *good)
+{
+    static const struct {
+        const char *text, *note;
+    } of[] = {{"00001010100010010011001111", "a Wiegand number"}, {"F81D4FAE-7DEC-11D0-A765-00A0C91E6BF6", "a UUID, in capitals"}};
+    bool ok = true;
+    printf("\nDOOR NUMBERS TO RECORDS, as before a load\n");
+    for (size_t i = 0; i < sizeof of / sizeof of[0]; i++) {
+        const plaid_mode_slot *slot = &good->card.modes[i];
+        uint8_t record[PLAID_UUID_RECORD] = {0};
+        ok = ok && door_has(slot->len) && door_record(of[i].text, record, slot->len) == PLAID_DONE
+            && memcmp(record, good->card.area + slot->start, slot->len) == 0;
+        printf("    text        %s  %s\n", of[i].text, of[i].note);
+        show_field("record", record, slot->len, "");
+        platform_erase(record, sizeof record);
+    }
+    return ok;
+}
+
+/* A conversion that has to be declined, by one number. */
+typedef struct {
+    const char *function, *given;
+    plaid_converted (*convert)(const uint8_t *in, size_t in_len, uint8_t *out, size_t out_len);
+    const char *in;
+    size_t in_len, out_len;
+    uint8_t number;
+} door_decline;
+
+static const door_decline door_declines[] = {
+    {"plaid_wiegand_record", "a text with a line end", plaid_wiegand_record, "00001010100010010011001111\n", 27, 4, 23},
+    {"plaid_wiegand_record", "a character 2", plaid_wiegand_record, "00001010100010010011001112", 26, 4, 25},
+    {"plaid_wiegand_record", "the odd parity turned", plaid_wiegand_record, "00001010100010010011001110", 26, 4, 24},
+    {"plaid_wiegand_text", "a record of 3 bytes", plaid_wiegand_text, "\x2A\x24\xCF", 3, 26, 23},
+    {"plaid_wiegand_text", "the even parity turned", plaid_wiegand_text, "\x02\x2A\x24\xCF", 4, 26, 24},
+    {"plaid_wiegand_text", "a bit above the 26", plaid_wiegand_text, "\x04\x2A\x24\xCF", 4, 26, 24},
+    {"plaid_uuid_record", "an output of 15 bytes", plaid_uuid_record, "f81d4fae-7dec-11d0-a765-00a0c91e6bf6", 36, 15, 23},
+    {"plaid_uuid_record", "a letter g", plaid_uuid_record, "g81d4fae-7dec-11d0-a765-00a0c91e6bf6", 36, 16, 25},
+    {"plaid_uuid_record", "a hyphen at another place", plaid_uuid_record, "f81d4fa-e7dec-11d0-a765-00a0c91e6bf6", 36, 16, 25},
+    {"plaid_uuid_text", "a record of 15 bytes", plaid_uuid_text, "FIFTEEN BYTES..", 15, 36, 23},
+};
+
+static bool watch_door_declined(void)
+{
+    static const uint8_t untouched[DOOR_TEXT];
+    bool ok = true;
+    printf("\nDOOR NUMBERS DECLINED: nothing is written\n");
+    for (size_t i = 0; i < sizeof door_declines / sizeof door_declines[0]; i++) {
+        const door_decline *of = &door_declines[i];
+        uint8_t out[DOOR_TEXT] = {0};
+        plaid_converted c = of->convert((const uint8_t *)of->in, of->in_len, out, of->out_len);
+        printf("    %-20s  %-26s  number %d\n", of->function, of->given, c.number);
+        ok = ok && c.number == of->number && c.length == 0 && memcmp(out, untouched, sizeof out) == 0;
+    }
+    return ok;
+}
+
 /* A session for keys of 24 or 32 bytes. */
 static bool watch_longer(bench *b, size_t key_length, const bench *good)
 {
@@ -391,7 +473,7 @@ static bool watch_all(bench good[3])
     ok = ok && watch_other_list(&good[0]) && watch_longer(&good[1], 24, &good[0]) && watch_longer(&good[2], 32, &good[0]);
     for (size_t i = 0; ok && i < 3; i++)
         ok = watch_all_refused(&good[i]);
-    return ok && watch_declined(&good[0]);
+    return ok && watch_declined(&good[0]) && watch_door_records(&good[0]) && watch_door_declined();
 }
 
 int main(int argc, char **argv)

@@ -2,8 +2,9 @@
 //! the result that the library gives. What stands behind `=>` is not looked at.
 //!
 //! A `load` line starts a new card; each `call` line gets the card as the call before left it. The output buffer is filled before a call,
-//! and `kept=no` stands at the line's end where a byte behind the answer changed. `list`, `open`, `seal` and `accept` lines are the reader's. A line that cannot be read gets an error with its
-//! number, and the run goes on; the exit status is then 1.
+//! and `kept=no` stands at the line's end where a byte behind the answer changed. `list`, `open`, `seal` and `accept` lines are the reader's.
+//! `wiegand_record`, `wiegand_text`, `uuid_record` and `uuid_text` lines convert door numbers; a text is the hexadecimal of its bytes. A line
+//! that cannot be read gets an error with its number, and the run goes on; the exit status is then 1.
 
 use std::collections::HashMap;
 use std::fmt::Write as _;
@@ -161,6 +162,16 @@ fn accept(line: &str) -> Result<String, String> {
     Ok(format!("number={} record={record} work={}{kept}", r.number, hex(&work)))
 }
 
+/// A conversion of door numbers, between the forms of these names.
+fn convert(line: &str, from: &str, to: &str, run: fn(&[u8], &mut [u8]) -> Converted) -> Result<String, String> {
+    let f = fields(line, &[from, "out"])?;
+    let fill = filled(f["out"])?;
+    let mut out = fill.clone();
+    let r = run(&bytes(f[from])?, &mut out);
+    let (result, kept) = written(&out, &fill, r.length);
+    Ok(format!("number={} length={} {to}={result}{kept}", r.number, r.length))
+}
+
 fn call(line: &str, card: &mut Option<Card>) -> Result<String, String> {
     let f = fields(line, &["command", "fresh", "out"])?;
     let command = bytes(f["command"])?;
@@ -211,7 +222,11 @@ fn main() {
             "open" => open(question),
             "seal" => seal(question),
             "accept" => accept(question),
-            other => Err(format!("'{other}' is none of load, call, list, open, seal and accept")),
+            "wiegand_record" => convert(question, "text", "record", run_wiegand_record),
+            "wiegand_text" => convert(question, "record", "text", run_wiegand_text),
+            "uuid_record" => convert(question, "text", "record", run_uuid_record),
+            "uuid_text" => convert(question, "record", "text", run_uuid_text),
+            other => Err(format!("'{other}' is none of load, call, list, open, seal, accept and the four conversions")),
         };
         match result {
             Ok(s) => writeln!(out, "{question} => {s}").unwrap(),

@@ -193,6 +193,13 @@ pub struct Part {
     pub length: usize,
 }
 
+#[repr(C)]
+#[derive(Clone, Copy)]
+pub struct Converted {
+    pub number: u8,
+    pub length: usize,
+}
+
 #[link(name = "plaid", kind = "static")]
 unsafe extern "C" {
     fn plaid_load(sets: *const KeySet, set_count: usize, given: Given, area: *const u8, area_len: usize) -> Loaded;
@@ -202,6 +209,10 @@ unsafe extern "C" {
     fn plaid_seal(of: Sealing, payload: *const u8, payload_len: usize, out: *mut u8, out_len: usize) -> Sealed;
     fn plaid_accept(of: Accepting, response: *const u8, response_len: usize, work: *mut u8, work_len: usize) -> Accepted;
     fn plaid_record(work: *const u8, work_len: usize, of: Accepted) -> Part;
+    fn plaid_wiegand_record(text: *const u8, text_len: usize, out: *mut u8, out_len: usize) -> Converted;
+    fn plaid_wiegand_text(record: *const u8, record_len: usize, out: *mut u8, out_len: usize) -> Converted;
+    fn plaid_uuid_record(text: *const u8, text_len: usize, out: *mut u8, out_len: usize) -> Converted;
+    fn plaid_uuid_text(record: *const u8, record_len: usize, out: *mut u8, out_len: usize) -> Converted;
 }
 
 /// What a load gives beside its lists, with no mode yet.
@@ -251,4 +262,20 @@ pub fn run_accept(of: Accepting, response: &[u8], work: &mut [u8]) -> Accepted {
 pub fn run_record(work: &[u8], of: Accepted) -> Range<usize> {
     let Part { start, length } = unsafe { plaid_record(work.as_ptr(), work.len(), of) };
     start..start.saturating_add(length)
+}
+
+pub fn run_wiegand_record(text: &[u8], out: &mut [u8]) -> Converted {
+    unsafe { plaid_wiegand_record(text.as_ptr(), text.len(), out.as_mut_ptr(), out.len()) }
+}
+
+pub fn run_wiegand_text(record: &[u8], out: &mut [u8]) -> Converted {
+    unsafe { plaid_wiegand_text(record.as_ptr(), record.len(), out.as_mut_ptr(), out.len()) }
+}
+
+pub fn run_uuid_record(text: &[u8], out: &mut [u8]) -> Converted {
+    unsafe { plaid_uuid_record(text.as_ptr(), text.len(), out.as_mut_ptr(), out.len()) }
+}
+
+pub fn run_uuid_text(record: &[u8], out: &mut [u8]) -> Converted {
+    unsafe { plaid_uuid_text(record.as_ptr(), record.len(), out.as_mut_ptr(), out.len()) }
 }

@@ -17,16 +17,18 @@ session() {
     echo "$(grep -v STAND-IN "$room/told" | paste -sd ';'), exit $status"
 }
 
-# The Wiegand number of mode 0007 and the UUID of mode 0008, and what a reader tells of the first.
+# The Wiegand number of mode 0007 and the UUID of mode 0008, as records and in the door system's form; what a reader tells of each.
 wiegand=002A24CF uuid=F81D4FAE7DEC11D0A76500A0C91E6BF6
-record="record: $wiegand, exit 0"
+wiegand_door="00001010100010010011001111  facility 21, number 4711" uuid_door=f81d4fae-7dec-11d0-a765-00a0c91e6bf6
+record="record: $wiegand;door: $wiegand_door, exit 0"
+uuid_record="record: $uuid;door: $uuid_door, exit 0"
 stand_ins() { cat "$room/card-told" "$room/told" | sed -n 's/: a STAND-IN for RSA, which hides nothing.*//p' | paste -sd ' '; }
 sessions() { # KEYS: '' is the stand-in
     local name="session, ${1:+RSA}" named=""
     if [ -z "$1" ]; then name="session, stand-in" named="card reader"; fi
     holds "$name: record of mode 0007" gives "$record" "$(session "$1" 0007)"
     holds "$name: both name a stand-in, and RSA is none" gives "$named" "$(stand_ins)"
-    holds "$name: record of mode 0008" gives "record: $uuid, exit 0" "$(session "$1" 0008)"
+    holds "$name: record of mode 0008" gives "$uuid_record" "$(session "$1" 0008)"
     holds "$name: the right FAKey as an argument" gives "$record" \
         "$(session "$1" 0007 "$(fa_key 16)")"
     holds "$name: wrong FAKey" gives "reader: no record, number 20, exit 1" "$(session "$1" 0007 "$(zeros 32)")"
@@ -44,7 +46,7 @@ key_lengths() { # NAME KEYS
             reader_flag=(-L$other)
             if [ "$l" = "$other" ]; then
                 holds "$1, L = $l: record of mode 0007" gives "$record" "$(session "$2" 0007)"
-                holds "$1, L = $l: record of mode 0008" gives "record: $uuid, exit 0" "$(session "$2" 0008)"
+                holds "$1, L = $l: record of mode 0008" gives "$uuid_record" "$(session "$2" 0008)"
                 holds "$1, L = $l: the right FAKey as an argument" gives "$record" "$(session "$2" 0007 "$(fa_key "$l")")"
                 holds "$1, L = $l: a FAKey with another last byte" gives "reader: no record, number 20, exit 1" \
                     "$(session "$2" 0007 "$(fa_key $((l - 1)))00")"
@@ -62,7 +64,8 @@ key_lengths() { # NAME KEYS
 # The first so many bytes of set 0102's FAKey.
 fa_key() { printf 'FAKey of set 102 of 24, 32 bytes' | head -c "$1" | od -An -v -tx1 | tr -d ' \n'; }
 # Reader and card differ in how long the record is. 16 bytes stand before DivData for both modes: more is refused, as is 0. What another
-# maker's reader takes for mode 0007, all that stands there, is the Wiegand number and the filler.
+# maker's reader takes for mode 0007, all that stands there, is the Wiegand number and the filler. By its length the reader takes a record
+# for a door number: those 16 bytes for a UUID, and the first 4 of the UUID for a Wiegand number, which they are not.
 lengths() { # NAME KEYS
     local length
     holds "$1: the record's own length as an argument" gives "$record" "$(session "$2" 0007:4)"
@@ -70,8 +73,12 @@ lengths() { # NAME KEYS
         holds "$1: mode 0007 taken for $length bytes" gives "reader: no record, number 20, exit 1" "$(session "$2" "0007:$length")"
     done
     holds "$1: mode 0008 taken for 17 bytes" gives "reader: no record, number 20, exit 1" "$(session "$2" 0008:17)"
-    holds "$1: mode 0007 taken for all that stands there" gives "record: $wiegand$(zeros 24), exit 0" "$(session "$2" 0007:16)"
-    holds "$1: mode 0008 taken for the other's length" gives "record: ${uuid:0:8}, exit 0" "$(session "$2" 0008:4)"
+    holds "$1: mode 0007 taken for all that stands there" \
+        gives "record: $wiegand$(zeros 24);door: 002a24cf-0000-0000-0000-000000000000, exit 0" "$(session "$2" 0007:16)"
+    holds "$1: mode 0008 taken for the other's length" gives "record: ${uuid:0:8};door: refused, number 24, exit 0" "$(session "$2" 0008:4)"
+    for length in 1 3 5 15; do
+        holds "$1: mode 0008 taken for $length bytes, no door number" gives "record: ${uuid:0:2*length}, exit 0" "$(session "$2" "0008:$length")"
+    done
 }
 
 # card LINE..: the card's answers and exit status, on one line; what it complains of goes to a file
@@ -187,7 +194,7 @@ patient() { # KEYS
         echo "$answer"
     done <"$room/up" >"$room/down" 3>"$room/card-in" 4<"$room/card-out"
     wait
-    grep -v STAND-IN "$room/told"
+    grep -v STAND-IN "$room/told" | paste -sd ';'
 }
 
 # The examples with a fault put in below the platform (seams.c).
@@ -230,11 +237,16 @@ erased_of() { # KEYS L
         "loaded FAKey" "loaded UUID" "loaded Wiegand" "loaded shill-key" "outcome FAKey" "outcome RND1" "outcome UUID" "outcome Wiegand" \
         "outcome shill-key" "sets FAKey"
     holds "$name: by the reader" told_erased reader "accepting KeysHash" "blocks RND1" "session FAKey" "session KeysHash" "session RND1" \
-        "session RND2" "session Wiegand" "sets FAKey"
+        "session RND2" "session Wiegand" "sets FAKey" "text Wiegand-text"
     rm -f "$room"/*-erased
     card_env+=(ERASE=no) reader_env+=(ERASE=no)
     holds "$name: a session without erasing" gives "$record" "$(session "$1" 0007)"
     holds "$name: where nothing is, it is seen" gives 0 "$(cat "$room"/*-erased | grep -vc 'NOT ERASED$')"
+    reader_env=(ERASED="$room/reader-erased" KEY_LENGTH="$2")
+    rm -f "$room"/*-erased
+    holds "$name: a session for the UUID" gives "$uuid_record" "$(session "$1" 0008)"
+    holds "$name: by the reader, the UUID" told_erased reader "accepting KeysHash" "blocks RND1" "session FAKey" "session KeysHash" \
+        "session RND1" "session RND2" "session UUID" "sets FAKey" "text UUID-text"
     [ -n "$1" ] || return
     rm -f "$room"/*-erased
     card_env=(ERASED="$room/card-erased" KEY_LENGTH="$2" FAULT=public:1)

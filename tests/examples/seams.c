@@ -8,6 +8,7 @@
  */
 #define _POSIX_C_SOURCE 200809L
 #include "card_end.h"
+#include "door.h"
 #include "example.h"
 #include "reader_end.h"
 
@@ -23,8 +24,9 @@ static struct {
 } secrets[SECRETS] = {
     {"FAKey", "FAKey of set 102 of 24, 32 bytes", 0}, {"shill-key", "the shill key 16 of 24, 32 bytes", 0}, {"Wiegand", {0x00, 0x2A, 0x24, 0xCF}, 4},
     {"UUID", {0xF8, 0x1D, 0x4F, 0xAE, 0x7D, 0xEC, 0x11, 0xD0, 0xA7, 0x65, 0x00, 0xA0, 0xC9, 0x1E, 0x6B, 0xF6}, 16},
+    {"Wiegand-text", "00001010100010010011001111", 26}, {"UUID-text", "f81d4fae-7dec-11d0-a765-00a0c91e6bf6", 36},
 };
-static size_t known = 4;
+static size_t known = 6;
 
 /* L, by which the two keys are cut to their length too. */
 static size_t key_length(void)
@@ -106,7 +108,7 @@ static const char *object(const void *at, size_t size)
     } objects[] = {
         {sizeof(plaid_given), "given"}, {sizeof(plaid_loaded), "loaded"}, {sizeof(plaid_card), "card"}, {sizeof(plaid_outcome), "outcome"},
         {PLAID_FRESH, "fresh"}, {CARD_ANSWER_MOST, "answer"}, {PLAID_LIST_IDS * PLAID_BLOCK, "blocks"}, {sizeof(plaid_accepting), "accepting"},
-        {sizeof(reader_session), "session"},
+        {sizeof(reader_session), "session"}, {DOOR_TEXT, "text"},
     };
     plaid_key_set first = {{0}, 0, {0, {0}}};
     if (size == 2 * sizeof first)

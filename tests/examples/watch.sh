@@ -24,16 +24,27 @@ watch_facts() { # NAME FILE
     holds "$1: hash blocks, 2 for L = 32" gives "1 1 1 2" "$(sed -n 's/^    hash blocks  *0  *//p' "$2" | paste -sd ' ')"
     holds "$1: what is declined for a length" gives "load:21 load:22 load:22 open:21 seal:21 seal:22 seal:22 seal:22 accept:21 accept:22" \
         "$(sed -n 's/^    plaid_\([a-z]*\) .* number \(2[0-9]\)$/\1:\2/p' "$2" | paste -sd ' ')"
+    holds "$1: a door form with each record" gives "5 5" "$(echo $(grep -c '  handed back$' "$2") $(grep -c '^    door form   ' "$2"))"
+    door_facts "$1" "$2"
     holds "$1: five records" grep -q 'the final command had 70 and 86\. Five sessions gave a record\.$' "$2"
     holds "$1: at most 80 columns" gives 0 "$(awk 'length > 80' "$2" | wc -l)"
     holds "$1: plain characters" gives 0 "$(LC_ALL=C grep -c '[^ -~]' "$2")"
+}
+# Texts to records, one of them in capitals; and each decline with its number.
+door_facts() { # NAME FILE
+    holds "$1: door numbers to records" gives "${wiegand_door%% *}=$wiegand ${uuid_door^^}=$uuid" \
+        "$(awk '/^DOOR NUMBERS TO/ { on = 1 } on && $1 == "text" { printf "%s%s=", between, $2; between = " " }
+            on && $1 == "record" { for (i = 2; i <= NF; i++) printf "%s", $i } /^DOOR NUMBERS DECLINED/ { exit }' "$2")"
+    holds "$1: door numbers declined" gives "wiegand_record:23 wiegand_record:25 wiegand_record:24 wiegand_text:23 wiegand_text:24 \
+wiegand_text:24 uuid_record:23 uuid_record:25 uuid_record:25 uuid_text:23" \
+        "$(sed -n 's/^    plaid_\([a-z]*_[a-z]*\) .* number \(2[0-9]\)$/\1:\2/p' "$2" | paste -sd ' ')"
 }
 # The refused sessions that have such a line.
 refused_by() { awk -F ': ' -v text="$1" '/^REFUSED/ { last = $2 } index($0, text) { print last }' "$2"; }
 
 # The lines of a session; of such, the bytes of a field, those of the rows behind a heading, and those of message 1 field by field, as digits.
 # A field of over 16 bytes goes on in lines without a name.
-part() { awk -v from="^SESSION $1:" '/^(SESSION|REFUSED|DECLINED)/ { on = $0 ~ from } on' "$2"; }
+part() { awk -v from="^SESSION $1:" '/^(SESSION|REFUSED|DECLINED|DOOR)/ { on = $0 ~ from } on' "$2"; }
 field() {
     awk -v name="$1" '
         function bytes(text) { return text ~ /^([0-9A-F][0-9A-F]( |$))+/ }
@@ -58,10 +69,11 @@ initial_is() {
 }
 
 # The reader's result is the record's own bytes, and beside it stands the filler. RND1, RND2 and KeysHash have L bytes.
-session_facts() { # NAME FILE SESSION L RECORD FILLER: the filler as it is shown
+session_facts() { # NAME FILE SESSION L RECORD FILLER DOOR: the filler and the door form as they are shown
     part "$3" "$2" >"$room/part"
     holds "$1, $3: the list, in short forms" initial_is 00870000 0A 3008 04020301 04020102 00
     holds "$1, $3: the record" gives "$5" "$(field record "$room/part")"
+    holds "$1, $3: the door form" gives "    door form   $7" "$(grep '^    door form ' "$room/part")"
     holds "$1, $3: the filler" gives "    filler      $6" "$(grep '^    filler ' "$room/part")"
     holds "$1, $3: RND1 and RND2 of $4 bytes" gives "$((2 * $4)) $((2 * $4))" "$(echo $(field RND1 "$room/part" | wc -c) $(field '- RND2' "$room/part" | wc -c))"
     holds "$1, $3: KeysHash" keys_hash_is "$room/part" "$4"
@@ -75,6 +87,7 @@ other_list_facts() { # NAME FILE
     holds "$1, other list: the reader finds the set" grep -qx '    reader   Open finds entry 1, set 0102' "$room/part"
     holds "$1, other list: compared places go by Lc" grep -q '^    card     makes 24 comparisons: ' "$room/part"
     holds "$1, other list: the record" gives "$wiegand" "$(field record "$room/part")"
+    holds "$1, other list: the door form" gives "    door form   $wiegand_door" "$(grep '^    door form ' "$room/part")"
 }
 
 # KeysHash is the first L bytes of SHA-256 of RND1 and RND2, by another program.
@@ -113,9 +126,9 @@ watch() { # NAME FILE [FLAG]: runs bin/watch with a folder for its temporary fil
     holds "$1: runs" run_watch "$2" "${3-}"
     holds "$1: leaves nothing behind" gives "" "$(ls "$room/tmp")"
     watch_facts "$1" "$2"
-    session_facts "$1" "$2" "FOR MODE 0007" 16 "$wiegand" "00 00 00 00 00 00 00 00 00 00 00 00  not looked at"
-    session_facts "$1" "$2" "FOR MODE 0008" 16 "$uuid" none
-    session_facts "$1" "$2" "WITH KEYS OF 24 BYTES" 24 "$wiegand" "00 00 00 00 00 00 00 00 00 00 00 00  not looked at"
-    session_facts "$1" "$2" "WITH KEYS OF 32 BYTES" 32 "$wiegand" "00 00 00 00 00 00 00 00 00 00 00 00  not looked at"
+    session_facts "$1" "$2" "FOR MODE 0007" 16 "$wiegand" "00 00 00 00 00 00 00 00 00 00 00 00  not looked at" "$wiegand_door"
+    session_facts "$1" "$2" "FOR MODE 0008" 16 "$uuid" none "$uuid_door"
+    session_facts "$1" "$2" "WITH KEYS OF 24 BYTES" 24 "$wiegand" "00 00 00 00 00 00 00 00 00 00 00 00  not looked at" "$wiegand_door"
+    session_facts "$1" "$2" "WITH KEYS OF 32 BYTES" 32 "$wiegand" "00 00 00 00 00 00 00 00 00 00 00 00  not looked at" "$wiegand_door"
     other_list_facts "$1" "$2"
 }

@@ -4,7 +4,8 @@
  * Results: each function is called with the result pointer given by hand, over two different fillings, so that the test sees which bytes
  * the library writes and reads each field where the header says it stands. Inputs: distinct values in each field, which have to arrive.
  * Constants: each is provoked, with the neighbour that is on the other side of it. Expected values come from the inputs, from document 01
- * and from NIST's vectors. All of it is run for each key length L.
+ * and from NIST's vectors. All of it is run for each key length L, but for the door numbers, which have none: their values come from
+ * document 02, RFC 4122 and C's own printing.
  *
  * The last line is 'N passed, M failed'.
  */
@@ -157,6 +158,7 @@ typedef struct {
 typedef registers raw_list(plaid_ids, uint8_t *, size_t);
 typedef registers raw_accept(plaid_accepting, const uint8_t *, size_t, uint8_t *, size_t);
 typedef registers raw_record(const uint8_t *, size_t, plaid_accepted);
+typedef registers raw_convert(const uint8_t *, size_t, uint8_t *, size_t);
 
 /* volatile, or a compiler sees the other type and makes no call. */
 #define AS(type, function) ((type *)(void (*)(void))(function))
@@ -1236,6 +1238,324 @@ static void record_parts(void)
     }
 }
 
+/*
+ * Door numbers
+ */
+
+/* Bytes of a buffer here: more than any text or record has. */
+#define DOOR 64
+
+/* A conversion, with the sizes of what it takes and of what it writes. */
+typedef struct {
+    raw_convert *volatile call;
+    size_t in, out;
+} conversion;
+
+static const conversion wiegand_record = {AS(raw_convert, plaid_wiegand_record), PLAID_WIEGAND_TEXT, PLAID_WIEGAND_RECORD};
+static const conversion wiegand_text = {AS(raw_convert, plaid_wiegand_text), PLAID_WIEGAND_RECORD, PLAID_WIEGAND_TEXT};
+static const conversion uuid_record = {AS(raw_convert, plaid_uuid_record), PLAID_UUID_TEXT, PLAID_UUID_RECORD};
+static const conversion uuid_text = {AS(raw_convert, plaid_uuid_text), PLAID_UUID_RECORD, PLAID_UUID_TEXT};
+
+/* A number in both forms. Behind them stand zeros. */
+typedef struct {
+    uint8_t text[DOOR], record[DOOR];
+} door_number;
+
+static bool input_changed;
+
+/* Converts into the first out_len bytes of a filled buffer; the result's two registers as bytes of the struct. */
+static plaid_converted convert(const conversion *c, const uint8_t in[DOOR], size_t in_len, uint8_t out[DOOR], size_t out_len)
+{
+    plaid_converted got;
+    uint8_t before[DOOR];
+    memcpy(before, in, DOOR);
+    memset(out, CANARY, DOOR);
+    registers r = c->call(in, in_len, out, out_len);
+    memcpy(&got, &r, sizeof got);
+    input_changed = input_changed || memcmp(before, in, DOOR) != 0;
+    return got;
+}
+
+/* Whether the input becomes these bytes, and no byte behind them is written. */
+static bool becomes(const conversion *c, const uint8_t in[DOOR], const uint8_t *wanted)
+{
+    uint8_t out[DOOR];
+    plaid_converted got = convert(c, in, c->in, out, DOOR);
+    return got.number == PLAID_DONE && got.length == c->out && memcmp(out, wanted, c->out) == 0
+        && all(out + c->out, DOOR - c->out, CANARY);
+}
+
+/* Whether so many bytes of the input, for an output of so many, are declined by this number, and nothing is written. */
+static bool declined(const conversion *c, const uint8_t in[DOOR], size_t in_len, size_t out_len, unsigned number)
+{
+    uint8_t out[DOOR];
+    plaid_converted got = convert(c, in, in_len, out, out_len);
+    return got.number == number && got.length == 0 && all(out, DOOR, CANARY);
+}
+
+static bool both_ways(const conversion *to_record, const conversion *to_text, const door_number *d)
+{
+    return becomes(to_record, d->text, d->record) && becomes(to_text, d->record, d->text);
+}
+
+static bool wiegand_both_ways(const door_number *d)
+{
+    return both_ways(&wiegand_record, &wiegand_text, d);
+}
+
+static bool uuid_both_ways(const door_number *d)
+{
+    return both_ways(&uuid_record, &uuid_text, d);
+}
+
+static bool wiegand_declined(const door_number *d, unsigned number)
+{
+    return declined(&wiegand_record, d->text, 26, 4, number) && declined(&wiegand_text, d->record, 4, 26, number);
+}
+
+/* The other value at a place of the 26, from the first on, in both forms. */
+static void flip(door_number *d, size_t place)
+{
+    d->text[place] ^= 1;
+    d->record[(place + 6) / 8] ^= (uint8_t)(0x80 >> (place + 6) % 8);
+}
+
+/* Facility and number as document 02 has them, bit by bit, with both parities counted. */
+static door_number wiegand_of(unsigned facility, unsigned number)
+{
+    door_number d;
+    bool odd[2] = {false, false}; /* the ones among the first and the last 12 data bits */
+    memset(&d, 0, sizeof d);
+    memset(d.text, '0', 26);
+    for (size_t i = 0; i < 24; i++)
+        if ((i < 8 ? facility >> (7 - i) : number >> (23 - i)) & 1) {
+            flip(&d, 1 + i);
+            odd[i / 12] = !odd[i / 12];
+        }
+    if (odd[0])
+        flip(&d, 0);
+    if (!odd[1])
+        flip(&d, 25);
+    return d;
+}
+
+/* Numbers written out: parity by hand. */
+static void wiegand_written(void)
+{
+    static const struct {
+        unsigned facility, number;
+        const char *text;
+        uint8_t record[4];
+    } known[] = {
+        {21, 4711, "00001010100010010011001111", {0x00, 0x2A, 0x24, 0xCF}},
+        {21, 110, "10001010100000000011011100", {0x02, 0x2A, 0x00, 0xDC}},
+        {0, 0, "00000000000000000000000001", {0x00, 0x00, 0x00, 0x01}},
+        {255, 65535, "01111111111111111111111111", {0x01, 0xFF, 0xFF, 0xFF}},
+        {128, 0, "11000000000000000000000001", {0x03, 0x00, 0x00, 0x01}},
+        {0, 4096, "10000000000010000000000001", {0x02, 0x00, 0x20, 0x01}},
+        {0, 2048, "00000000000001000000000000", {0x00, 0x00, 0x10, 0x00}},
+        {0, 1, "00000000000000000000000010", {0x00, 0x00, 0x00, 0x02}},
+    };
+    for (size_t i = 0; i < LENGTH(known); i++) {
+        door_number d = wiegand_of(known[i].facility, known[i].number);
+        CHECK(memcmp(d.text, known[i].text, 26) == 0 && memcmp(d.record, known[i].record, 4) == 0);
+        CHECK(wiegand_both_ways(&d));
+    }
+}
+
+/* Every facility, with numbers over the whole range. */
+static void wiegand_numbers(void)
+{
+    for (unsigned facility = 0; facility < 256; facility++) {
+        bool ok = true;
+        for (unsigned number = facility % 8; number < 65536; number += 509) {
+            door_number d = wiegand_of(facility, number);
+            ok = ok && wiegand_both_ways(&d);
+        }
+        CHECK(ok);
+    }
+}
+
+/* One bit changed is a wrong parity, whichever bit it is. Put right by the parity of its own half it is another number, by the other's not. */
+static void wiegand_parity(void)
+{
+    for (unsigned number = 0; number < 65536; number += 4369)
+        for (size_t place = 0; place < 26; place++) {
+            door_number d = wiegand_of(number % 251, number);
+            bool first = place < 13;
+            flip(&d, place);
+            CHECK(wiegand_declined(&d, PLAID_DECLINE_PARITY));
+            flip(&d, first ? 25 : 0);
+            CHECK(wiegand_declined(&d, PLAID_DECLINE_PARITY));
+            flip(&d, first ? 25 : 0);
+            flip(&d, first ? 0 : 25);
+            CHECK(wiegand_both_ways(&d));
+        }
+}
+
+/* A bit above the 26: alone, with others, and with a wrong parity. */
+static void wiegand_above(void)
+{
+    for (unsigned above = 4; above < 256; above += 4)
+        for (unsigned number = 0; number < 4; number++) {
+            door_number d = wiegand_of(77, 20000 * number);
+            d.record[0] |= (uint8_t)above;
+            CHECK(declined(&wiegand_text, d.record, 4, 26, PLAID_DECLINE_PARITY));
+            flip(&d, 6 * number);
+            CHECK(declined(&wiegand_text, d.record, 4, 26, PLAID_DECLINE_PARITY));
+        }
+}
+
+/* Each byte at each place: 0 and 1 alone are characters. With any other 25 comes before 24. */
+static void wiegand_characters(void)
+{
+    for (size_t place = 0; place < 26; place++) {
+        bool ok = true;
+        for (unsigned byte = 0; byte < 256; byte++) {
+            door_number d = wiegand_of(200, 12345), wrong = d;
+            flip(&wrong, (place + 1) % 26);
+            bool known = byte == '0' || byte == '1', same = byte == d.text[place];
+            d.text[place] = wrong.text[place] = (uint8_t)byte;
+            ok = ok && (same ? becomes(&wiegand_record, d.text, d.record)
+                             : declined(&wiegand_record, d.text, 26, 4, known ? PLAID_DECLINE_PARITY : PLAID_DECLINE_BAD_CHARACTER));
+            ok = ok && (known || declined(&wiegand_record, wrong.text, 26, 4, PLAID_DECLINE_BAD_CHARACTER));
+        }
+        CHECK(ok);
+    }
+}
+
+/* The text of 16 bytes, by C's own printing. */
+static door_number uuid_of(const uint8_t b[PLAID_UUID_RECORD], bool capitals)
+{
+    door_number d;
+    char text[DOOR];
+    memset(&d, 0, sizeof d);
+    memcpy(d.record, b, 16);
+    snprintf(text, sizeof text,
+        capitals ? "%02X%02X%02X%02X-%02X%02X-%02X%02X-%02X%02X-%02X%02X%02X%02X%02X%02X"
+                 : "%02x%02x%02x%02x-%02x%02x-%02x%02x-%02x%02x-%02x%02x%02x%02x%02x%02x",
+        b[0], b[1], b[2], b[3], b[4], b[5], b[6], b[7], b[8], b[9], b[10], b[11], b[12], b[13], b[14], b[15]);
+    memcpy(d.text, text, 36);
+    return d;
+}
+
+/* The UUIDs that stand in RFC 4122, section 3, 4.1.7, appendix B and C; in small letters, in capitals, and with both in one text. */
+static void uuid_published(void)
+{
+    static const struct {
+        const char *small, *capitals;
+        uint8_t record[16];
+    } known[] = {
+        {"f81d4fae-7dec-11d0-a765-00a0c91e6bf6", "F81D4FAE-7DEC-11D0-A765-00A0C91E6BF6",
+            {0xf8, 0x1d, 0x4f, 0xae, 0x7d, 0xec, 0x11, 0xd0, 0xa7, 0x65, 0x00, 0xa0, 0xc9, 0x1e, 0x6b, 0xf6}},
+        {"00000000-0000-0000-0000-000000000000", "00000000-0000-0000-0000-000000000000", {0}},
+        {"6ba7b810-9dad-11d1-80b4-00c04fd430c8", "6BA7B810-9DAD-11D1-80B4-00C04FD430C8",
+            {0x6b, 0xa7, 0xb8, 0x10, 0x9d, 0xad, 0x11, 0xd1, 0x80, 0xb4, 0x00, 0xc0, 0x4f, 0xd4, 0x30, 0xc8}},
+        {"6ba7b811-9dad-11d1-80b4-00c04fd430c8", "6BA7B811-9DAD-11D1-80B4-00C04FD430C8",
+            {0x6b, 0xa7, 0xb8, 0x11, 0x9d, 0xad, 0x11, 0xd1, 0x80, 0xb4, 0x00, 0xc0, 0x4f, 0xd4, 0x30, 0xc8}},
+        {"6ba7b812-9dad-11d1-80b4-00c04fd430c8", "6BA7B812-9DAD-11D1-80B4-00C04FD430C8",
+            {0x6b, 0xa7, 0xb8, 0x12, 0x9d, 0xad, 0x11, 0xd1, 0x80, 0xb4, 0x00, 0xc0, 0x4f, 0xd4, 0x30, 0xc8}},
+        {"6ba7b814-9dad-11d1-80b4-00c04fd430c8", "6BA7B814-9DAD-11D1-80B4-00C04FD430C8",
+            {0x6b, 0xa7, 0xb8, 0x14, 0x9d, 0xad, 0x11, 0xd1, 0x80, 0xb4, 0x00, 0xc0, 0x4f, 0xd4, 0x30, 0xc8}},
+        {"e902893a-9d22-3c7e-a7b8-d6e313b71d9f", "E902893A-9D22-3C7E-A7B8-D6E313B71D9F",
+            {0xe9, 0x02, 0x89, 0x3a, 0x9d, 0x22, 0x3c, 0x7e, 0xa7, 0xb8, 0xd6, 0xe3, 0x13, 0xb7, 0x1d, 0x9f}},
+    };
+    for (size_t i = 0; i < LENGTH(known); i++) {
+        door_number d = {{0}, {0}}, capitals = d, mixed = d;
+        memcpy(d.text, known[i].small, 36);
+        memcpy(d.record, known[i].record, 16);
+        memcpy(capitals.text, known[i].capitals, 36);
+        for (size_t place = 0; place < 36; place++)
+            mixed.text[place] = (uint8_t)(place % 3 ? known[i].small : known[i].capitals)[place];
+        CHECK(uuid_both_ways(&d));
+        CHECK(becomes(&uuid_record, capitals.text, known[i].record));
+        CHECK(becomes(&uuid_record, mixed.text, known[i].record));
+    }
+}
+
+/* Each value of each byte, whatever version and variant that is; read in capitals too. */
+static void uuid_bytes(void)
+{
+    for (size_t place = 0; place < 16; place++) {
+        bool ok = true;
+        for (unsigned value = 0; value < 256; value++) {
+            uint8_t bytes[16];
+            mark(bytes, sizeof bytes, value);
+            bytes[place] = (uint8_t)value;
+            door_number d = uuid_of(bytes, false), capitals = uuid_of(bytes, true);
+            ok = ok && uuid_both_ways(&d) && becomes(&uuid_record, capitals.text, bytes);
+        }
+        CHECK(ok);
+    }
+}
+
+/* Each byte at each place: hyphens at four, at the others digits of either case, and nothing else. */
+static void uuid_characters(void)
+{
+    static const char digits[] = "0123456789abcdefABCDEF";
+    uint8_t bytes[16];
+    mark(bytes, sizeof bytes, 3);
+    for (size_t place = 0; place < 36; place++) {
+        bool hyphen = place == 8 || place == 13 || place == 18 || place == 23, ok = true;
+        for (unsigned byte = 0; byte < 256; byte++) {
+            door_number d = uuid_of(bytes, place % 2);
+            bool known = hyphen ? byte == '-' : memchr(digits, (int)byte, sizeof digits - 1) != NULL;
+            uint8_t out[DOOR];
+            d.text[place] = (uint8_t)byte;
+            ok = ok && (known ? convert(&uuid_record, d.text, 36, out, 16).number == PLAID_DONE
+                              : declined(&uuid_record, d.text, 36, 16, PLAID_DECLINE_BAD_CHARACTER));
+        }
+        CHECK(ok);
+    }
+}
+
+/* Every size of input and of output: 23 comes before what else is wrong, which then has this number. */
+static void check_sizes(const conversion *c, const uint8_t good[DOOR], const uint8_t bad[DOOR], unsigned number)
+{
+    for (size_t in = 0; in <= DOOR; in++) {
+        bool ok = true;
+        for (size_t out_len = 0; out_len <= DOOR; out_len++) {
+            uint8_t out[DOOR];
+            if (in != c->in || out_len < c->out) {
+                ok = ok && declined(c, good, in, out_len, PLAID_DECLINE_CONVERSION_LENGTH)
+                    && declined(c, bad, in, out_len, PLAID_DECLINE_CONVERSION_LENGTH);
+                continue;
+            }
+            plaid_converted got = convert(c, good, in, out, out_len);
+            ok = ok && got.number == PLAID_DONE && got.length == c->out && all(out + c->out, DOOR - c->out, CANARY);
+            ok = ok && (number == PLAID_DONE || declined(c, bad, in, out_len, number));
+        }
+        CHECK(ok);
+    }
+}
+
+static void door_sizes(void)
+{
+    door_number w = wiegand_of(21, 4711), u = uuid_of(w.text, false), bad_w = w, bad_u = u;
+    flip(&bad_w, 0);
+    bad_w.text[25] = 0;
+    bad_u.text[0] = 'g';
+    check_sizes(&wiegand_record, w.text, bad_w.text, PLAID_DECLINE_BAD_CHARACTER);
+    check_sizes(&wiegand_text, w.record, bad_w.record, PLAID_DECLINE_PARITY);
+    check_sizes(&uuid_record, u.text, bad_u.text, PLAID_DECLINE_BAD_CHARACTER);
+    check_sizes(&uuid_text, u.record, u.record, PLAID_DONE);
+}
+
+static void door_numbers(void)
+{
+    CHECK(sizeof(plaid_converted) == sizeof(registers));
+    wiegand_written();
+    wiegand_numbers();
+    wiegand_parity();
+    wiegand_above();
+    wiegand_characters();
+    uuid_published();
+    uuid_bytes();
+    uuid_characters();
+    door_sizes();
+    CHECK(!input_changed);
+}
+
 static void run(void)
 {
     load_fields();
@@ -1272,6 +1592,7 @@ int main(void)
         keys_hash = nist[i].keys_hash;
         run();
     }
+    door_numbers();
     printf("%u passed, %u failed\n", passed, failed);
     return failed > 0;
 }

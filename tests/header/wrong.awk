@@ -79,7 +79,7 @@ END {
                 edit[i] = "#define " word[2] " (((l) > " over ") + " body ")"
                 write("constant", word[2] " for L over " over)
             }
-        } else if (line[i] ~ /^plaid_[a-z]+ plaid_[a-z]+\(/) {
+        } else if (line[i] ~ /^plaid_[a-z_]+ plaid_[a-z_]+\(/) {
             edit[i] = with(i, "\\(", "(int more, ")
             write("declared", line[i])
         }

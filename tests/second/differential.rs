@@ -85,7 +85,7 @@ impl<S: Side> Other<'_, S> {
                 }
                 Some(last) if broken_promise(&case, &last, &mut run.outcomes) => {
                     run.tally.count(false);
-                    run.found.push(format!("# the session promise is broken\n{}", self.transcript(&case.lines, pattern)));
+                    run.found.push(format!("# a promise is broken\n{}", self.transcript(&case.lines, pattern)));
                 }
                 Some(_) => {}
             }
@@ -94,14 +94,18 @@ impl<S: Side> Other<'_, S> {
     }
 }
 
-/// Whether a session to which the promise applies ended without the chosen record.
+/// Whether a session to which the promise applies ended without the chosen record, or a door number did not come back.
 fn broken_promise(case: &Case, last: &Seen, outcomes: &mut Outcomes) -> bool {
     let returned = match &last.reply {
         Reply::Accept { number: 0, part, .. } => last.lent().get(part.clone()),
+        Reply::Door { number: 0, length, .. } => last.lent().get(..*length),
         _ => None,
     };
     let lengths: Vec<usize> = case.lines.iter().filter_map(Line::key_length).collect();
-    let kind = for_length("session", lengths.first().copied());
+    let kind = match case.lines.first() {
+        Some(Line::Door { of, .. }) => format!("{} and back", of.name()),
+        _ => for_length("session", lengths.first().copied()),
+    };
     match &case.promised {
         Some(record) if returned == Some(record) => outcomes.count(kind, "ended as promised"),
         Some(_) => return true,
@@ -140,7 +144,7 @@ fn shown(name: &str, run: &Run) -> bool {
     again.failed == 0 && (1..=FEW).contains(&again.passed) && transcript.contains("\n# with the fault: ")
 }
 
-/// Each of document 01's traps, T-01's, T-02's and T-04's, and a change of each thing compared, has to be found.
+/// Each of document 01's traps, T-01's, T-02's, T-04's and T-05's, and a change of each thing compared, has to be found.
 pub fn self_test(calls: usize, seed: u64) -> Tally {
     let mut traps = Tally::default();
     for (fault, trap) in TRAPS {

@@ -1,4 +1,4 @@
-//! Document 01's traps for the implementer, and mistakes that T-01, T-02 and T-04 invite, as switches. Only the self-test turns one on, to see
+//! Document 01's traps for the implementer, and mistakes that T-01, T-02, T-04 and T-05 invite, as switches. Only the self-test turns one on, to see
 //! that the comparison finds it.
 
 #[derive(Clone, Copy, PartialEq)]
@@ -29,10 +29,22 @@ pub enum Fault {
     PadsFrom50,
     KeysBeforeCount,
     ShillKeyNotLookedAt,
+    ParityOver13,
+    OddForEven,
+    ParityBitsSwapped,
+    BitAboveTaken,
+    ParityBeforeCharacters,
+    RecordLittleEndian,
+    GIsADigit,
+    HyphenNotLookedAt,
+    CapitalsRefused,
+    CapitalsWritten,
+    NulBehindText,
+    DeclineWrites,
 }
 
-/// Each fault in words: document 01's traps, then T-01's, T-02's and T-04's.
-pub const TRAPS: [(Fault, &str); 25] = [
+/// Each fault in words: document 01's traps, then T-01's, T-02's, T-04's and T-05's.
+pub const TRAPS: [(Fault, &str); 37] = [
     (Fault::FullTextGetsNo80, "leaving out 0x80 when a text fills its blocks"),
     (Fault::WalkEndsAtMatch, "ending the list walk at the first match"),
     (Fault::SlotOrderWins, "taking card slot order over list order"),
@@ -58,4 +70,16 @@ pub const TRAPS: [(Fault, &str); 25] = [
     (Fault::PadsFrom50, "taking the pad bytes from 50 on for L = 24"),
     (Fault::KeysBeforeCount, "giving 22 before 1"),
     (Fault::ShillKeyNotLookedAt, "not looking at the shill key for 22"),
+    (Fault::ParityOver13, "counting the even parity over 13 data bits"),
+    (Fault::OddForEven, "taking odd parity where even is wanted"),
+    (Fault::ParityBitsSwapped, "taking the two parity bits for one another"),
+    (Fault::BitAboveTaken, "letting a bit above the 26 through"),
+    (Fault::ParityBeforeCharacters, "giving 24 before 25"),
+    (Fault::RecordLittleEndian, "a Wiegand record with its low byte first"),
+    (Fault::GIsADigit, "taking g for a digit"),
+    (Fault::HyphenNotLookedAt, "not looking at a hyphen"),
+    (Fault::CapitalsRefused, "refusing capitals"),
+    (Fault::CapitalsWritten, "writing capitals"),
+    (Fault::NulBehindText, "writing a zero byte behind a text"),
+    (Fault::DeclineWrites, "a declined conversion that writes"),
 ];

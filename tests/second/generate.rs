@@ -1,6 +1,7 @@
 //! Seeded random calls. Random bytes alone reach no depth: each case is first made valid, then some are damaged.
 
 mod command;
+mod door;
 mod load;
 mod reader;
 mod session;
@@ -11,24 +12,25 @@ use crate::keys::LENGTHS;
 use crate::line::Line;
 use crate::random::Random;
 
-/// Lines that belong together: a load with its calls, one call of the reader, or a whole session.
+/// Lines that belong together: a load with its calls, one call of the reader, a whole session, or door numbers.
 pub struct Case {
     pub lines: Vec<Line>,
-    /// The record with which a session has to end, by the session promise.
+    /// What the last line has to hand back: by the session promise the record; there and back, the door number that was given.
     pub promised: Option<Vec<u8>>,
     /// Whether the lines are a session, or the part of one up to where it ended.
     pub session: bool,
 }
 
 pub fn case(random: &mut Random) -> Case {
-    let lines = match random.below(100) {
+    let lines = match random.below(130) {
         0..16 => vec![Line::Load(load::any(random))],
         16..36 => card_list(random),
         36..46 => vec![reader::list(random)],
         46..58 => vec![reader::open(random)],
         58..70 => vec![reader::seal(random)],
         70..85 => vec![reader::accept(random)],
-        _ => return session::any(random),
+        85..100 => return session::any(random),
+        _ => return door::case(random),
     };
     Case { lines, promised: None, session: false }
 }

@@ -2,6 +2,7 @@
 
 use crate::aes::Block;
 use crate::card::{Given, KeySet, Mode};
+use crate::door::Conversion;
 use crate::reader::{Accepting, Sealing};
 
 #[derive(Clone, PartialEq)]
@@ -14,6 +15,8 @@ pub enum Line {
     Open { key_length: usize, ids: Vec<u16>, blocks: Vec<u8> },
     Seal { of: Sealing, payload: Vec<u8>, out: usize },
     Accept { of: Accepting, response: Vec<u8>, work: Vec<u8> },
+    /// A text or a record to be converted.
+    Door { of: Conversion, given: Vec<u8>, out: usize },
 }
 
 /// One argument of a line, by the way in which it can be made simpler.
@@ -21,6 +24,7 @@ pub enum Field<'a> {
     Bytes(&'a mut Vec<u8>),
     Command(&'a mut Vec<u8>),
     Fresh(&'a mut Vec<u8>),
+    Text(&'a mut Vec<u8>),
     Block(&'a mut Block),
     Ids(&'a mut Vec<u16>),
     Sets(&'a mut Vec<KeySet>),
@@ -48,6 +52,7 @@ impl Line {
             Line::Accept { of: Accepting { key_length, keys_hash, div_data, record_length }, response, work } => {
                 vec![Bytes(response), Size(key_length), Bytes(keys_hash), Block(div_data), Size(record_length), Bytes(work)]
             }
+            Line::Door { of, given, out } => vec![if of.takes_text() { Text(given) } else { Bytes(given) }, Size(out)],
         }
     }
 
@@ -56,7 +61,7 @@ impl Line {
         match self {
             Line::Load(Given { key_length, .. }) | Line::Open { key_length, .. } => Some(*key_length),
             Line::Seal { of: Sealing { key_length, .. }, .. } | Line::Accept { of: Accepting { key_length, .. }, .. } => Some(*key_length),
-            Line::Call { .. } | Line::List { .. } => None,
+            Line::Call { .. } | Line::List { .. } | Line::Door { .. } => None,
         }
     }
 
@@ -64,7 +69,7 @@ impl Line {
     pub fn lent(&self) -> usize {
         match self {
             Line::Load(_) | Line::Open { .. } => 0,
-            Line::Call { out, .. } | Line::List { out, .. } | Line::Seal { out, .. } => *out,
+            Line::Call { out, .. } | Line::List { out, .. } | Line::Seal { out, .. } | Line::Door { out, .. } => *out,
             Line::Accept { work, .. } => work.len(),
         }
     }

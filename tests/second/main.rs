@@ -1,10 +1,11 @@
-//! A second implementation of document 01 with T-01 to T-04, and the proved library compared with it. Runs from the top of the repository.
+//! A second implementation of document 01 with T-01 to T-05, and the proved library compared with it. Runs from the top of the repository.
 //! Arguments: the number of random calls and the seed, both with a default.
 
 mod aes;
 mod card;
 mod compare;
 mod differential;
+mod door;
 mod fault;
 mod generate;
 mod keys;

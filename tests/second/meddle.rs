@@ -53,7 +53,7 @@ macro_rules! change {
     };
 }
 
-pub const CHANGES: [(&str, Change); 54] = [
+pub const CHANGES: [(&str, Change); 56] = [
     ("the first byte written", |_, lent| lent.iter_mut().take(1).for_each(Meddle::meddle)),
     ("the last byte lent", |_, lent| lent.iter_mut().rev().take(1).for_each(Meddle::meddle)),
     change!(Load { number, .. } => number),
@@ -108,4 +108,6 @@ pub const CHANGES: [(&str, Change); 54] = [
     change!(Accept { length, .. } => length),
     change!(Accept { part, .. } => part.start),
     change!(Accept { part, .. } => part.end),
+    change!(Door { number, .. } => number),
+    change!(Door { length, .. } => length),
 ];

@@ -2,12 +2,14 @@
 
 use std::collections::{BTreeMap, BTreeSet};
 
+use crate::door::{Conversion, bad_place};
+use crate::fault::Fault;
 use crate::keys::LENGTHS;
 use crate::line::Line;
 use crate::side::Reply;
 
 /// The outcomes that have to come up: for each kind of call and number or status, the rules that decide.
-const REQUIRED: [(&str, &[&str]); 9] = [
+const REQUIRED: [(&str, &[&str]); 26] = [
     ("load 21", UNKNOWN_LENGTH),
     ("open 21", UNKNOWN_LENGTH),
     ("seal 21", UNKNOWN_LENGTH),
@@ -17,6 +19,23 @@ const REQUIRED: [(&str, &[&str]); 9] = [
     ("list 12", &["repeated KeySetID"]),
     ("list 13", &["output too short"]),
     ("session", &["without promise", "two key lengths"]),
+    ("wiegand_record 0", CONVERTED),
+    ("wiegand_record 23", MISFIT),
+    ("wiegand_record 25", &["neither 0 nor 1"]),
+    ("wiegand_record 24", PARITY),
+    ("wiegand_text 0", CONVERTED),
+    ("wiegand_text 23", MISFIT),
+    ("wiegand_text 24", PARITY),
+    ("wiegand_text 24", &["a bit above alone", "a bit above and parity"]),
+    ("uuid_record 0", &["converted, no letter", "converted, small letters", "converted, capitals", "converted, letters of both cases"]),
+    ("uuid_record 23", MISFIT),
+    ("uuid_record 25", &["no digit first", "no hyphen first"]),
+    ("uuid_text 0", CONVERTED),
+    ("uuid_text 23", MISFIT),
+    ("wiegand_record and back", BACK),
+    ("wiegand_text and back", BACK),
+    ("uuid_record and back", BACK),
+    ("uuid_text and back", BACK),
 ];
 
 /// Those that have to come up for each L.
@@ -66,6 +85,12 @@ const REQUIRED_FOR_EACH: [(&str, &[&str]); 41] = [
 
 const UNKNOWN_LENGTH: &[&str] = &["L none of the three"];
 
+/// Of a door number.
+const CONVERTED: &[&str] = &["converted"];
+const MISFIT: &[&str] = &["input too short", "input too long", "output too short"];
+const PARITY: &[&str] = &["even parity alone", "odd parity alone", "both parities"];
+const BACK: &[&str] = &["ended as promised"];
+
 /// Of a load: where the largest B stands.
 const LOADED: &[&str] = &[
     "loaded, every record's B the same",
@@ -106,6 +131,8 @@ pub struct Outcomes {
     counts: BTreeMap<(String, &'static str), usize>,
     /// The lengths of the bodies that Accept handed back whole.
     bodies: BTreeSet<usize>,
+    /// The places, counted from 0, of the first bad character of a text, and of the highest bit set above a record's 26.
+    places: BTreeSet<(&'static str, usize)>,
 }
 
 impl Outcomes {
@@ -118,6 +145,9 @@ impl Outcomes {
         self.count(for_length(&kind(reply), length), why);
         if let (Reply::Accept { length, .. }, ALONE) = (reply, why) {
             self.bodies.insert(*length);
+        }
+        if let (Line::Door { of, given, .. }, Reply::Door { number: 24 | 25, .. }) = (line, reply) {
+            self.places.extend(refused_place(*of, given).map(|place| (of.name(), place)));
         }
     }
 
@@ -139,8 +169,17 @@ impl Outcomes {
         let required = required.flat_map(|(kind, rules)| rules.iter().map(move |why| (kind.clone(), *why)));
         let missing = required.filter(|outcome| !self.counts.contains_key(outcome)).map(|(kind, why)| format!("{kind}: {why}"));
         let lengths = (1..=64).filter(|length| !self.bodies.contains(length)).map(|length| format!("accept 0: a body of {length}"));
-        missing.chain(lengths).collect()
+        let places = PLACES.iter().flat_map(|(of, count)| (0..*count).map(|place| (of.name(), place)));
+        let places = places.filter(|at| !self.places.contains(at)).map(|(name, place)| format!("{name}: refused at place {place}"));
+        missing.chain(lengths).chain(places).collect()
     }
+}
+
+/// A bad character has to come up at each place of a text, and each bit above a record's 26.
+const PLACES: [(Conversion, usize); 3] = [(Conversion::WiegandRecord, 26), (Conversion::UuidRecord, 36), (Conversion::WiegandText, 6)];
+
+fn refused_place(of: Conversion, given: &[u8]) -> Option<usize> {
+    if of.takes_text() { bad_place(of, given, Fault::None) } else { Some(given[0].leading_zeros() as usize) }
 }
 
 /// The kind, with L where it is one of the three.
@@ -160,6 +199,7 @@ fn kind(reply: &Reply) -> String {
         Reply::Open { number, .. } => format!("open {number}"),
         Reply::Seal { number, .. } => format!("seal {number}"),
         Reply::Accept { number, .. } => format!("accept {number}"),
+        Reply::Door { of, number, .. } => format!("{} {number}", of.name()),
         Reply::NoCard => "no card".to_string(),
     }
 }

@@ -6,7 +6,12 @@ use crate::side::Second;
 use crate::tally::Tally;
 use crate::transcript::{parse, question, result};
 
-const FILES: [&str; 3] = ["tests/transcripts/t04-card.txt", "tests/transcripts/t04-reader.txt", "tests/transcripts/edges.txt"];
+const FILES: [&str; 4] = [
+    "tests/transcripts/t04-card.txt",
+    "tests/transcripts/t04-reader.txt",
+    "tests/transcripts/t05-door.txt",
+    "tests/transcripts/edges.txt",
+];
 
 /// The line as the second implementation gives it.
 fn given(side: &mut Second, published: &str) -> Option<String> {

@@ -60,6 +60,7 @@ impl Shrinker<'_> {
             match &self.lines[at].fields()[field] {
                 Field::Bytes(_) => self.bytes(at, field, |_| 0),
                 Field::Fresh(_) => self.bytes(at, field, plain_fresh),
+                Field::Text(_) => self.bytes(at, field, |_| b'0'),
                 Field::Command(_) => self.command(at, field),
                 Field::Block(_) => self.block(at, field),
                 Field::Ids(_) | Field::Sets(_) | Field::Modes(_) => self.items(at, field),
@@ -159,7 +160,7 @@ fn without_id(data: &mut Vec<u8>, listed: usize) {
 impl Field<'_> {
     fn length(&self) -> usize {
         match self {
-            Field::Bytes(bytes) | Field::Command(bytes) | Field::Fresh(bytes) => bytes.len(),
+            Field::Bytes(bytes) | Field::Command(bytes) | Field::Fresh(bytes) | Field::Text(bytes) => bytes.len(),
             Field::Ids(ids) => ids.len(),
             Field::Sets(sets) => sets.len(),
             Field::Modes(modes) => modes.len(),
@@ -168,7 +169,7 @@ impl Field<'_> {
     }
 
     fn edit_bytes(&mut self, change: impl FnOnce(&mut Vec<u8>)) {
-        if let Field::Bytes(bytes) | Field::Command(bytes) | Field::Fresh(bytes) = self {
+        if let Field::Bytes(bytes) | Field::Command(bytes) | Field::Fresh(bytes) | Field::Text(bytes) = self {
             change(bytes);
         }
     }

@@ -4,6 +4,7 @@ use std::ops::Range;
 
 use crate::aes::Block;
 use crate::card::{self, Card, Decline, Given, Mode, Session};
+use crate::door::{self, Conversion};
 use crate::fault::Fault;
 use crate::line::Line;
 use crate::plaid::{self, Value};
@@ -23,6 +24,7 @@ pub enum Reply {
     Open { number: u8, place: usize, id: u16, div_data: Block, rnd1: Value },
     Seal { number: u8, length: usize, keys_hash: Value },
     Accept { number: u8, length: usize, part: Range<usize> },
+    Door { of: Conversion, number: u8, length: usize },
     /// A command without a loaded card before it.
     NoCard,
 }
@@ -162,6 +164,13 @@ impl Second {
         self.why = why;
         Reply::Accept { number, length, part: 0..length }
     }
+
+    fn door(&mut self, of: Conversion, given: &[u8], lent: &mut [u8]) -> Reply {
+        let (number, converted) = self.decided(door::convert(of, given, lent, self.fault), "");
+        let (length, why) = converted.unwrap_or((0, self.why));
+        self.why = why;
+        Reply::Door { of, number, length }
+    }
 }
 
 impl Side for Second {
@@ -176,6 +185,7 @@ impl Side for Second {
             Line::Open { key_length, ids, blocks } => self.open(*key_length, ids, blocks),
             Line::Seal { of, payload, .. } => self.seal(of, payload, lent),
             Line::Accept { of, response, .. } => self.accept(of, response, lent),
+            Line::Door { of, given, .. } => self.door(*of, given, lent),
         }
     }
 }
@@ -232,6 +242,17 @@ impl Library {
         let plaid::Accepted { number, length } = accepted;
         Reply::Accept { number, length, part: plaid::run_record(lent, accepted) }
     }
+
+    fn door(of: Conversion, given: &[u8], lent: &mut [u8]) -> Reply {
+        let run = match of {
+            Conversion::WiegandRecord => plaid::run_wiegand_record,
+            Conversion::WiegandText => plaid::run_wiegand_text,
+            Conversion::UuidRecord => plaid::run_uuid_record,
+            Conversion::UuidText => plaid::run_uuid_text,
+        };
+        let plaid::Converted { number, length } = run(given, lent);
+        Reply::Door { of, number, length }
+    }
 }
 
 impl Side for Library {
@@ -249,6 +270,7 @@ impl Side for Library {
             }
             Line::Seal { of, payload, .. } => Library::seal(of, payload, lent),
             Line::Accept { of, response, .. } => Library::accept(of, response, lent),
+            Line::Door { of, given, .. } => Library::door(*of, given, lent),
         }
     }
 }

@@ -5,6 +5,7 @@ use std::fmt::Display;
 use crate::aes::Block;
 use crate::card::{Given, KeySet, Mode};
 use crate::compare::Seen;
+use crate::door::CONVERSIONS;
 use crate::line::Line;
 use crate::plaid;
 use crate::reader::{Accepting, Sealing};
@@ -65,6 +66,7 @@ pub fn question(line: &Line) -> String {
             let of = words(&of, &[("reclen", record_length)]);
             words(&of, &[("response", &hex(response)), ("work", &hex(work))])
         }
+        Line::Door { of, given, out } => words(of.name(), &[(of.words().0, &hex(given)), ("out", out)]),
     }
 }
 
@@ -92,6 +94,9 @@ pub fn result(seen: &Seen) -> String {
         Reply::Accept { number, part, .. } => {
             let record = seen.lent().get(part.clone()).map_or("outside".to_string(), hex);
             format!("number={number} record={record} work={}", hex(seen.lent()))
+        }
+        Reply::Door { of, number, length } => {
+            words("", &[("number", number), ("length", length), (of.words().1, &shown(*length))]).trim_start().to_string()
         }
         Reply::NoCard => "error: a call with no loaded card before it".to_string(),
     }
@@ -149,6 +154,12 @@ fn parse_accept(line: &str) -> Option<Line> {
     Some(Line::Accept { of, response: bytes(response)?, work: bytes(work)? })
 }
 
+fn parse_door(line: &str) -> Option<Line> {
+    let of = CONVERSIONS.into_iter().find(|of| line.starts_with(&format!("{} ", of.name())))?;
+    let [given, out] = values(line, [of.words().0, "out"])?;
+    Some(Line::Door { of, given: bytes(given)?, out: out.parse().ok()? })
+}
+
 /// A line without its result, `None` if it cannot be read.
 pub fn parse(line: &str) -> Option<Line> {
     match line.split(' ').next()? {
@@ -167,6 +178,6 @@ pub fn parse(line: &str) -> Option<Line> {
         }
         "seal" => parse_seal(line),
         "accept" => parse_accept(line),
-        _ => None,
+        _ => parse_door(line),
     }
 }

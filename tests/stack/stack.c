@@ -52,6 +52,7 @@ static plaid_sealing sealing;
 static uint8_t payload[PLAID_PAYLOAD(16) + 1];
 static plaid_accepting accepting;
 static uint8_t response[PLAID_ANSWER_FINAL_MOST], work[PLAID_ANSWER_FINAL_MOST];
+static uint8_t door[PLAID_UUID_TEXT];
 
 static plaid_loaded loaded;
 static plaid_outcome outcome;
@@ -60,6 +61,7 @@ static plaid_opened opened;
 static plaid_sealed sealed;
 static plaid_accepted accepted;
 static plaid_part part;
+static plaid_converted converted;
 
 /* The mode whose record is followed by filler. */
 #define SHORT 14
@@ -239,6 +241,18 @@ static void given_accept_short_hash(void) { given_response(); accepting.keys_has
 static void given_record(void) { given_response(); accepted = plaid_accept(accepting, response, 96, work, 96); }
 static void given_no_record(void) { given_wrong_response(); accepted = plaid_accept(accepting, response, 96, work, 96); }
 
+/* Door numbers: right ones, and such as are declined at their last character or bit. */
+static void given_door(const char *bytes, size_t count) { memcpy(door, bytes, count); }
+static void given_wiegand_text(void) { given_door("00001010100010010011001111", 26); }
+static void given_wiegand_character(void) { given_wiegand_text(); door[25] = '2'; }
+static void given_wiegand_parity(void) { given_wiegand_text(); door[25] = '0'; }
+static void given_wiegand_record(void) { given_door("\x00\x2A\x24\xCF", 4); }
+static void given_wiegand_odd(void) { given_wiegand_record(); door[3] ^= 1; }
+static void given_wiegand_above(void) { given_wiegand_record(); door[0] = 0x80; }
+static void given_uuid_text(void) { given_door("f81d4fae-7dec-11d0-A765-00A0C91E6BF6", 36); }
+static void given_uuid_character(void) { given_uuid_text(); door[35] = 'g'; }
+static void given_uuid_record(void) { given_door("\xF8\x1D\x4F\xAE\x7D\xEC\x11\xD0\xA7\x65\x00\xA0\xC9\x1E\x6B\xF6", 16); }
+
 /* Whether a final answer is one that the reader takes. */
 static bool taken(void)
 {
@@ -262,12 +276,19 @@ static bool answered(size_t length)
     f(OPEN, plaid_open, sizeof(plaid_ids)) \
     f(SEAL, plaid_seal, sizeof(plaid_sealing)) \
     f(ACCEPT, plaid_accept, sizeof(plaid_accepting)) \
-    f(RECORD, plaid_record, 0)
+    f(RECORD, plaid_record, 0) \
+    f(WIEGAND_RECORD, plaid_wiegand_record, 0) \
+    f(WIEGAND_TEXT, plaid_wiegand_text, 0) \
+    f(UUID_RECORD, plaid_uuid_record, 0) \
+    f(UUID_TEXT, plaid_uuid_text, 0)
 
 #define LOADS(label, give, test) \
     c(LOAD, label, give, load_at(&loaded, sets, set_count, given, area, sizeof area), test)
 #define RUNS(label, give, fresh_len, out_len, test) \
     c(COMMAND, label, give, command_at(&outcome, card, command, command_len, fresh, fresh_len, out, out_len), test)
+
+#define CONVERTS(function, of, label, give, in, out_len, test) \
+    c(function, label, give, converted = of(door, in, out, out_len), converted.number == test)
 
 /* c(FUNCTION, the path's name, what is given, the call, whether it took that path) */
 #define CALLS \
@@ -320,7 +341,20 @@ static bool answered(size_t length)
     c(ACCEPT, declined_18, given_response, accepted = plaid_accept(accepting, response, 33, work, 96), accepted.number == 18) \
     c(ACCEPT, declined_19, given_response, accepted = plaid_accept(accepting, response, 96, work, 95), accepted.number == 19) \
     c(RECORD, record_part, given_record, part = plaid_record(work, sizeof work, accepted), part.length == PLAID_CARD_RECORD) \
-    c(RECORD, record_none, given_no_record, part = plaid_record(work, sizeof work, accepted), part.length == 0)
+    c(RECORD, record_none, given_no_record, part = plaid_record(work, sizeof work, accepted), part.length == 0) \
+    CONVERTS(WIEGAND_RECORD, plaid_wiegand_record, wiegand_record, given_wiegand_text, 26, sizeof out, PLAID_DONE) \
+    CONVERTS(WIEGAND_RECORD, plaid_wiegand_record, wiegand_record_23, given_wiegand_text, 26, 3, PLAID_DECLINE_CONVERSION_LENGTH) \
+    CONVERTS(WIEGAND_RECORD, plaid_wiegand_record, wiegand_record_25, given_wiegand_character, 26, 4, PLAID_DECLINE_BAD_CHARACTER) \
+    CONVERTS(WIEGAND_RECORD, plaid_wiegand_record, wiegand_record_24, given_wiegand_parity, 26, 4, PLAID_DECLINE_PARITY) \
+    CONVERTS(WIEGAND_TEXT, plaid_wiegand_text, wiegand_text, given_wiegand_record, 4, sizeof out, PLAID_DONE) \
+    CONVERTS(WIEGAND_TEXT, plaid_wiegand_text, wiegand_text_23, given_wiegand_record, 4, 25, PLAID_DECLINE_CONVERSION_LENGTH) \
+    CONVERTS(WIEGAND_TEXT, plaid_wiegand_text, wiegand_text_24, given_wiegand_odd, 4, 26, PLAID_DECLINE_PARITY) \
+    CONVERTS(WIEGAND_TEXT, plaid_wiegand_text, wiegand_text_24_above, given_wiegand_above, 4, 26, PLAID_DECLINE_PARITY) \
+    CONVERTS(UUID_RECORD, plaid_uuid_record, uuid_record, given_uuid_text, 36, sizeof out, PLAID_DONE) \
+    CONVERTS(UUID_RECORD, plaid_uuid_record, uuid_record_23, given_uuid_text, 36, 15, PLAID_DECLINE_CONVERSION_LENGTH) \
+    CONVERTS(UUID_RECORD, plaid_uuid_record, uuid_record_25, given_uuid_character, 36, 16, PLAID_DECLINE_BAD_CHARACTER) \
+    CONVERTS(UUID_TEXT, plaid_uuid_text, uuid_text, given_uuid_record, 16, sizeof out, PLAID_DONE) \
+    CONVERTS(UUID_TEXT, plaid_uuid_text, uuid_text_23, given_uuid_record, 16, 35, PLAID_DECLINE_CONVERSION_LENGTH)
 
 /*
  * The painted stack

@@ -1,4 +1,5 @@
 //! The C interface: structs by value and lent slices. A slice passes as a pointer and then a length.
+use conversion::Converted;
 use load::Loaded;
 use plaid_types::Card;
 use plaid_types::KeySet;
@@ -22,6 +23,9 @@ ghost use Rattle.reader_open.specs.Open.{opened};
 ghost use Rattle.reader_seal.specs.Seal.{sealedOf, sealOutput};
 ghost use Rattle.reader_accept.specs.Accept.{acceptedOf, workAfter};
 ghost use Rattle.load.specs.Load.{loaded};
+ghost use Rattle.conversion.specs.Conversion.{converted, outputAfter};
+ghost use Rattle.wiegand.specs.Wiegand as wiegand;
+ghost use Rattle.uuid.specs.Uuid as uuid;
 ghost use Rattle.plaid.specs.Interface.{blankSet, loadOf, recordAt};
 
 // What a load is given beside the key sets and the record area. What stands past the count is not looked at.
@@ -217,4 +221,40 @@ pub extern "C" fn plaid_record(work: &[u8], of: Accepted) -> Part
         start: 0,
         length: record.len(),
     }
+}
+
+// A Wiegand text to its record (T-05).
+#[no_mangle]
+pub extern "C" fn plaid_wiegand_record(text: &[u8], out: &mut [u8]) -> Converted
+    ensures told { λ r. ⌜ r ≡ converted (wiegand.textNumber (now (text .entry)) (length (now (out .entry)))) (wiegand.recordOf (now (text .entry))) ⌝ }
+    ensures bytes { λ _. ⌜ now (out .exit) ≡ outputAfter (wiegand.textNumber (now (text .entry)) (length (now (out .entry)))) (wiegand.recordOf (now (text .entry))) (now (out .entry)) ⌝ }
+{
+    wiegand::to_record(text, out)
+}
+
+// A record to its Wiegand text.
+#[no_mangle]
+pub extern "C" fn plaid_wiegand_text(of: &[u8], out: &mut [u8]) -> Converted
+    ensures told { λ r. ⌜ r ≡ converted (wiegand.recordNumber (now (of .entry)) (length (now (out .entry)))) (wiegand.textOf (now (of .entry))) ⌝ }
+    ensures bytes { λ _. ⌜ now (out .exit) ≡ outputAfter (wiegand.recordNumber (now (of .entry)) (length (now (out .entry)))) (wiegand.textOf (now (of .entry))) (now (out .entry)) ⌝ }
+{
+    wiegand::to_text(of, out)
+}
+
+// A UUID's text to its record.
+#[no_mangle]
+pub extern "C" fn plaid_uuid_record(text: &[u8], out: &mut [u8]) -> Converted
+    ensures told { λ r. ⌜ r ≡ converted (uuid.textNumber (now (text .entry)) (length (now (out .entry)))) (uuid.recordOf (now (text .entry))) ⌝ }
+    ensures bytes { λ _. ⌜ now (out .exit) ≡ outputAfter (uuid.textNumber (now (text .entry)) (length (now (out .entry)))) (uuid.recordOf (now (text .entry))) (now (out .entry)) ⌝ }
+{
+    uuid::to_record(text, out)
+}
+
+// A record to its UUID's text.
+#[no_mangle]
+pub extern "C" fn plaid_uuid_text(of: &[u8], out: &mut [u8]) -> Converted
+    ensures told { λ r. ⌜ r ≡ converted (uuid.recordNumber (now (of .entry)) (length (now (out .entry)))) (uuid.textOf (now (of .entry))) ⌝ }
+    ensures bytes { λ _. ⌜ now (out .exit) ≡ outputAfter (uuid.recordNumber (now (of .entry)) (length (now (out .entry)))) (uuid.textOf (now (of .entry))) (now (out .entry)) ⌝ }
+{
+    uuid::to_text(of, out)
 }

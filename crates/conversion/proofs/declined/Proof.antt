@@ -1,0 +1,10 @@
+-- `declined` meets its contract. Assumes nothing.
+use mathlib.Core.Path.{refl}
+use Rattle.conversion.proofs.declined.Statement.{statement}
+use Rattle.conversion.proofs.declined.Tie as tie
+
+returns : tie.Need-returns
+returns c = refl
+
+pub declined-spec : {M : Type 1} → statement M
+declined-spec = tie.close (tie.spec returns)

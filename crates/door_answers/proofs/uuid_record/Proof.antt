@@ -1,0 +1,70 @@
+-- `uuid_record` meets its contract, by what the digits say. Assumes nothing.
+use mathlib.Core.Path.{_≡_, sym, ap, _∙_}
+use mathlib.Core.List.{List, _++_}
+use Prim.Native.Nat.{ℕ, _≤_}
+use native.Mathlib.Omega.{arith}
+use lib.ListN.{length, replicate}
+use mathlib.Core.Bool.{true, false}
+use borrow.Author.Tests.{not-true, not-false}
+use Rattle.conversion.specs.Conversion.{each}
+use Rattle.uuid.specs.Uuid.{isDigit, octetsOf}
+use Rattle.uuid.specs.Groups.{length-octets}
+use Rattle.door_answers.specs.Answer.{ofUuidRecord}
+use Rattle.printing.specs.Laws.{written-as}
+use Rattle.door_answers.specs.Ways.{over-all, hexadecimal-fault, hexadecimal-read}
+use borrow.Author.Needs.{needs}
+use Rattle.door_answers.proofs.uuid_record.Statement.{statement}
+use Rattle.door_answers.proofs.uuid_record.Tie as tie
+
+are-digits-requires : tie.Need-are-digits-requires
+are-digits-requires c κs = search needs
+
+fault-requires : tie.Need-fault-requires
+fault-requires c κs = search needs
+
+same-length : tie.Need-same-length
+same-length c = search needs
+
+returns : tie.Need-returns
+returns c =
+    let a = c .before .before .before .before .before .before .before .before .args in
+    let digits : each isDigit (a .line .now) ≡ false = sym (c .before .before .before .before .before .are-digits .ensures) ∙ not-true _ (c .before .before .before .before .if1 .taken) in
+    (written-as (a .out .now) (a .at) (hexadecimal-fault (a .line .now) ofUuidRecord digits) (c .before .before .fault .ensures .0), search needs)
+
+slice-aggregate-read-group : tie.Need-slice-aggregate-read-group
+slice-aggregate-read-group c = search needs
+
+read-group-requires : tie.Need-read-group-requires
+read-group-requires c κs =
+    let start = c .before .before .before .before .before in
+    let digits : each isDigit (start .args .line .now) ≡ true = sym (c .before .before .are-digits .ensures) ∙ not-false _ (c .before .if1 .left) in
+    (digits, omega (arith, length-octets (start .args .line .now), start .pre .0))
+
+of-uuid-record-requires : tie.Need-of-uuid-record-requires
+of-uuid-record-requires c κs = search needs
+
+same-length-2 : tie.Need-same-length-2
+same-length-2 c = search needs
+
+returns-2 : tie.Need-returns-2
+returns-2 c =
+    let start = c .before .before .before .before .before .before .before .before .before .before .before in
+    let a = start .args in
+    let digits : each isDigit (a .line .now) ≡ true = sym (c .before .before .before .before .before .before .before .before .are-digits .ensures) ∙ not-false _ (c .before .before .before .before .before .before .before .if1 .left) in
+    let long : 16 ≤ length (octetsOf (a .line .now)) = omega (arith, length-octets (a .line .now), start .pre .0) in
+    let read = c .before .before .before .before .before .read-group .ensures ∙ over-all (replicate 16 0) (octetsOf (a .line .now)) long in
+    (written-as (a .out .now) (a .at) (ap ofUuidRecord read ∙ hexadecimal-read (a .line .now) ofUuidRecord digits) (c .before .before .of-uuid-record .ensures .0), search needs)
+
+pub uuid-record-spec : {M : Type 1} → statement M
+uuid-record-spec =
+    tie.close
+    (tie.spec
+    are-digits-requires
+    fault-requires
+    same-length
+    returns
+    slice-aggregate-read-group
+    read-group-requires
+    of-uuid-record-requires
+    same-length-2
+    returns-2)

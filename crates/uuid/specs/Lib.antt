@@ -1,0 +1,4 @@
+pub mod Uuid
+pub mod Digits
+pub mod Groups
+pub mod Numbers
