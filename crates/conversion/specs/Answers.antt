@@ -25,6 +25,15 @@ pub answer-made : (result out : List ℕ) {number : ℕ} {r : Converted} {out′
 unfolding converted outputAfter
 answer-made result out e q w = (q ∙ simp e, w ∙ simp e)
 
+-- the number that is handed back is the conversion's
+number-by : (number : ℕ) (result : List ℕ) (t : Bool) → eqb number 0 ≡ t → converted number result .number ≡ number
+unfolding converted
+number-by number result true e = simp e (sym (eqb-true number 0 e))
+number-by number result false e = simp e refl
+
+pub number-is : (number : ℕ) (result : List ℕ) → converted number result .number ≡ number
+number-is number result = number-by number result (eqb number 0) refl
+
 pub or-false : (a b : Bool) → (a || b) ≡ false → (a ≡ false) × (b ≡ false)
 or-false true b e = absurd (let z : _≡_ {A = ℕ} 0 1 = cc in omega arith)
 or-false false b e = (refl, e)

@@ -4,12 +4,11 @@ use mathlib.Core.List.{List, [], _++_}
 use Prim.Native.Nat.{ℕ}
 use lib.Dec.{eqb, ltb}
 use lib.ListN.{length}
-use Rattle.binary.specs.Binary.{value}
 use Rattle.conversion.specs.Conversion.{each}
 use Rattle.wiegand.specs.Wiegand as wiegand
-use Rattle.wiegand.specs.Wiegand.{recordBits}
+use Rattle.wiegand_parts.specs.WiegandParts.{facilityOf, numberOf}
 use Rattle.uuid.specs.Uuid as uuid
-use Rattle.uuid.specs.Uuid.{isDigit, octetsOf, digitsOf}
+use Rattle.hexadecimal.specs.Hexadecimal.{isDigit, octetsOf, digitsOf}
 use Rattle.printing.specs.Printing.{ascii, decimal, shown}
 
 -- a number and its reason in words, of a text or of a record
@@ -22,13 +21,7 @@ fault number isRecord =
 unfoldable pub wrongLength : ℕ → List ℕ
 wrongLength n = ascii ": 23, wrong length: " ++ decimal n ++ ascii " bytes, not 26 (Wiegand), 36 (UUID), 8 or 32 (a record)"
 
--- facility and number of a Wiegand number's record
-unfoldable pub facilityOf : List ℕ → ℕ
-facilityOf r = value (wiegand.facility (recordBits r))
-
-unfoldable pub numberOf : List ℕ → ℕ
-numberOf r = value (wiegand.number (recordBits r))
-
+-- facility and number of a Wiegand number's record, apart
 unfoldable pub apart : List ℕ → List ℕ
 apart r = ascii ", facility " ++ decimal (facilityOf r) ++ ascii ", number " ++ decimal (numberOf r)
 

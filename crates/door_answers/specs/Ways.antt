@@ -1,5 +1,5 @@
 -- What `door` answers, told by the tests that lead there. Assumes nothing.
-use mathlib.Core.Path.{_≡_, refl, sym, ap, _∙_}
+use mathlib.Core.Path.{_≡_, refl, sym, ap, _∙_, subst}
 use mathlib.Core.Bool.{Bool, true, false, cond}
 use mathlib.Core.List.{List, [], _++_, append-nil}
 use Prim.Native.Nat.{ℕ, _<_, _≤_}
@@ -10,8 +10,12 @@ use lib.ListN.{length, drop, drop-of-length-le}
 use Rattle.octets.specs.Lists.{over}
 use Rattle.octets.specs.Writes.{over-front}
 use Rattle.conversion.specs.Conversion.{each, made, converted, outputAfter}
+use Rattle.conversion.specs.Answers.{number-is}
 use Rattle.conversion.specs.declared.Converted.{Converted}
-use Rattle.uuid.specs.Uuid.{isDigit, octetsOf}
+use Rattle.binary.specs.Binary.{binary, bitsOf}
+use Rattle.binary.specs.Places.{by-places}
+use Rattle.wiegand.specs.Wiegand.{textOf}
+use Rattle.hexadecimal.specs.Hexadecimal.{isDigit, octetsOf}
 use Rattle.printing.specs.Printing.{ascii, shown}
 use Rattle.door_answers.specs.Answer.{fault, wrongLength, result, wiegandText, uuidText, ofRecord, ofUuidRecord, inHexadecimal, verdict, heading}
 
@@ -37,13 +41,8 @@ pub over-all : (d s : List ℕ) → length d ≤ length s → over d 0 s ≡ s
 over-all d s h = over-front d s ∙ ap (λ (l : List ℕ). s ++ l) (drop-of-length-le d h) ∙ append-nil s
 
 -- a conversion's number is the one that its definition says
-number-by : (k : ℕ) (s : List ℕ) (t : Bool) → eqb k 0 ≡ t → converted k s .number ≡ k
-unfolding converted
-number-by k s true e = ap (λ (t : Bool). cond t (made s) (record { number = k; length = 0 }) .number) e ∙ sym (eqb-true k 0 e)
-number-by k s false e = ap (λ (t : Bool). cond t (made s) (record { number = k; length = 0 }) .number) e
-
 pub number-told : (k : ℕ) (s : List ℕ) {r : Converted} → r ≡ converted k s → r .number ≡ k
-number-told k s e = ap (λ (r : Converted). r .number) e ∙ number-by k s (eqb k 0) refl
+number-told k s e = ap (λ (r : Converted). r .number) e ∙ number-is k s
 
 -- its answer where the number is not 0, and where it is
 pub result-fault : (k : ℕ) (m : List ℕ) (b : Bool) {n : ℕ} → n ≡ k → (n ≡ 0 → ⊥) → fault n b ≡ result k m b
@@ -98,3 +97,8 @@ module _ (s : List ℕ) (n : ℕ) where
   pub heading-whole : n ≤ length s → shown s ≡ heading s n
   unfolding heading
   heading-whole h = sym (rw (le-ltb (length s) n h) (append-nil (shown s)))
+
+-- a Wiegand number's text has 26 characters
+pub length-letters : (r : List ℕ) → length r ≡ 4 → length (textOf r) ≡ 26
+unfolding textOf bitsOf binary
+length-letters r e = subst (λ (s : List ℕ). length (textOf s) ≡ 26) (by-places 4 r e) refl

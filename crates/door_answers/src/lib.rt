@@ -1,6 +1,4 @@
 //! The answer of the program `door` to a line of its input (document 02, T-05): the line's other form, or its number and the reason in words.
-mod parts;
-
 ghost use mathlib.Core.Path.{_≡_};
 ghost use Prim.Native.Nat.{_+_, _*_, _≤_, min};
 ghost use lib.ListN.{length};
@@ -47,9 +45,9 @@ fn apart(out: &mut [u8], at: usize, four: [u8; 4]) -> usize
     ensures { λ r. ⌜ r ≤ at + 60 ⌝ }
 {
     let a = printing::put(out, at, b", facility ");
-    let b = printing::decimal(out, a, parts::facility(four) as u64);
+    let b = printing::decimal(out, a, wiegand_parts::facility(four) as u64);
     let c = printing::put(out, b, b", number ");
-    printing::decimal(out, c, parts::number(four) as u64)
+    printing::decimal(out, c, wiegand_parts::number(four) as u64)
 }
 
 // A Wiegand number as text.
@@ -90,11 +88,11 @@ fn wiegand_record(out: &mut [u8], at: usize, line: &[u8]) -> usize
     ensures { λ r. ⌜ Written (now (out .entry)) at (inHexadecimal (now (line .entry)) ofRecord) r (now (out .exit)) ⌝ }
     ensures { λ r. ⌜ r ≤ at + 100 ⌝ }
 {
-    if !uuid::are_digits(line) {
+    if !hexadecimal::are_digits(line) {
         return fault(out, at, 25, true);
     }
     let mut four = [0u8; 4];
-    uuid::read_group(line, &mut four, 0);
+    hexadecimal::read_digits(line, &mut four, 0);
     of_record(out, at, four)
 }
 
@@ -134,11 +132,11 @@ fn uuid_record(out: &mut [u8], at: usize, line: &[u8]) -> usize
     ensures { λ r. ⌜ Written (now (out .entry)) at (inHexadecimal (now (line .entry)) ofUuidRecord) r (now (out .exit)) ⌝ }
     ensures { λ r. ⌜ r ≤ at + 100 ⌝ }
 {
-    if !uuid::are_digits(line) {
+    if !hexadecimal::are_digits(line) {
         return fault(out, at, 25, true);
     }
     let mut sixteen = [0u8; 16];
-    uuid::read_group(line, &mut sixteen, 0);
+    hexadecimal::read_digits(line, &mut sixteen, 0);
     of_uuid_record(out, at, sixteen)
 }
 

@@ -9,8 +9,9 @@ use Rattle.octets.specs.Bytes.{Bytes}
 use Rattle.octets.specs.Lists.{cons}
 use Rattle.octets.specs.Same.{split-and}
 use Rattle.conversion.specs.Conversion.{each}
-use Rattle.uuid.specs.Uuid.{isDigit, digitValue, digit, octetsOf, digitsOf, small}
-use Rattle.uuid.specs.Digits.{digit-facts, value-facts, small-digit}
+use Rattle.hexadecimal.specs.Hexadecimal.{isDigit, digitValue, digit, octetsOf, digitsOf}
+use Rattle.uuid.specs.Uuid.{small}
+use Rattle.door_claims.specs.Characters.{digit-facts, value-facts, small-digit}
 
 -- the two digits of a byte are digits, and give it back
 halves : (b : ℕ) → b < 256 → (b / 16 < 16) × (b % 16 < 16)

@@ -58,7 +58,7 @@ pub record DoorNumbers : Type 0 where
   pub either-case : (t out : List ℕ) → answer uuidRecord (uuid.smallText t) out .number ≡ answer uuidRecord t out .number
   pub one-record : (t out : List ℕ) → Taken uuidRecord t out → written uuidRecord (uuid.smallText t) out ≡ written uuidRecord t out
   -- a Wiegand record is not refused exactly when it is some text's record
-  pub some-text : (r out : List ℕ) → Bytes r → 26 ≤ length out → Taken wiegandText r out → (t out′ : List ℕ) × Taken wiegandRecord t out′ × (written wiegandRecord t out′ ≡ r)
+  pub some-text : (r out : List ℕ) → Bytes r → Taken wiegandText r out → (t out′ : List ℕ) × Taken wiegandRecord t out′ × (written wiegandRecord t out′ ≡ r)
   pub of-a-text : (t r out out′ : List ℕ) → 26 ≤ length out → Taken wiegandRecord t out′ → written wiegandRecord t out′ ≡ r → Taken wiegandText r out
   -- every record of 16 bytes is a UUID's
   pub every-record : (r out : List ℕ) → length r ≡ 16 → 36 ≤ length out → Taken uuidText r out

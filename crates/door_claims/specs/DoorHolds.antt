@@ -1,29 +1,18 @@
 -- T-05's round trips hold. Assumes nothing.
 use mathlib.Core.Path.{_≡_, refl, sym, subst, _∙_}
-use mathlib.Core.Bool.{Bool, true, false}
 use mathlib.Core.List.{List}
 use Prim.Native.Nat.{ℕ, _≤_}
 use native.Mathlib.Omega.{arith}
-use borrow.Author.Tests.{eqb-true}
-use lib.Dec.{eqb}
 use lib.ListN.{length, replicate}
 use Rattle.octets.specs.Bytes.{Bytes}
 use Rattle.octets.specs.Writes.{take-over}
 use Rattle.conversion.specs.Conversion.{converted, outputAfter}
+use Rattle.conversion.specs.Answers.{number-is}
 use Rattle.wiegand.specs.Wiegand as w
 use Rattle.uuid.specs.Uuid as uuid
 use Rattle.door_claims.specs.Door.{Conversion, wiegandRecord, wiegandText, uuidRecord, uuidText, written, Taken, Back, DoorNumbers}
 use Rattle.door_claims.specs.Wiegand as wb
 use Rattle.door_claims.specs.Uuid as ub
-
--- the number that is handed back is the conversion's
-number-by : (n : ℕ) (s : List ℕ) (t : Bool) → eqb n 0 ≡ t → converted n s .number ≡ n
-unfolding converted
-number-by n s true e = simp e (sym (eqb-true n 0 e))
-number-by n s false e = simp e refl
-
-number-is : (n : ℕ) (s : List ℕ) → converted n s .number ≡ n
-number-is n s = number-by n s (eqb n 0) refl
 
 -- what is written where it is not refused
 written-is : (c : Conversion) (x out : List ℕ) → c .number x (length out) ≡ 0 → written c x out ≡ c .result x
@@ -52,7 +41,7 @@ door-numbers =
           let z : uuid.textNumber t (length out) ≡ 0 = sym (number-is (uuid.textNumber t (length out)) (uuid.recordOf t)) ∙ e in
           written-is uuidRecord (uuid.smallText t) out (ub.small-number t (length out) ∙ z) ∙ ub.small-record t (length out) z ∙ sym (written-is uuidRecord t out z);
       some-text =
-          λ r out b h e.
+          λ r out b e.
           let o : List ℕ = replicate 4 0 in
           let q = back-by wiegandText wiegandRecord (λ x. x) 4 wb.record-back r out o b e (omega arith) in
           (written wiegandText r out, o, q .0, q .1);

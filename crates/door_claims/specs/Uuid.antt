@@ -12,8 +12,9 @@ use Rattle.octets.specs.Lists.{part, length-part, cons}
 use Rattle.octets.specs.ByteLists.{part-bytes}
 use Rattle.conversion.specs.Conversion.{misfit, each}
 use Rattle.conversion.specs.Answers.{no-misfit}
-use Rattle.uuid.specs.Uuid.{hyphen, isDigit, octetsOf, digitsOf, behindHyphen, textOf, recordOf, groupAt, formed, small, smallText, textNumber, recordNumber}
-use Rattle.uuid.specs.Digits.{small-hyphen}
+use Rattle.hexadecimal.specs.Hexadecimal.{isDigit, octetsOf, digitsOf}
+use Rattle.uuid.specs.Uuid.{hyphen, behindHyphen, textOf, recordOf, groupAt, formed, small, smallText, textNumber, recordNumber}
+use Rattle.door_claims.specs.Characters.{small-hyphen}
 use Rattle.uuid.specs.Groups.{octets-long, digits-long, length-record, length-text, Group, formed-true}
 use Rattle.uuid.specs.Numbers.{text-taken, text-shown, record-fits, record-shown}
 use Rattle.door_claims.specs.Parts.{part-cons, map-part, joined, joined-map, Apart, apart}

@@ -12,7 +12,7 @@ use lib.ListN.{length, getD, take, length-append}
 use lib.Seq.{take-suc}
 use Rattle.octets.specs.Lists.{over, cons, over-none}
 use Rattle.octets.specs.Writes.{over-next}
-use Rattle.uuid.specs.Uuid.{digitsOf}
+use Rattle.hexadecimal.specs.Hexadecimal.{digitsOf}
 use Rattle.io.specs.Digits.{digits, glyph, Fewest}
 use Rattle.printing.specs.Printing.{ascii, Written, decimals, isPlain, shownByte, shown}
 

@@ -8,7 +8,7 @@ use Prim.Native.Nat.{ℕ, zero, suc, _+_, _/_, _%_}
 use lib.Dec.{eqb, ltb}
 use lib.ListN.{length}
 use Rattle.octets.specs.Lists.{over}
-use Rattle.uuid.specs.Uuid.{digitsOf, within}
+use Rattle.hexadecimal.specs.Hexadecimal.{digitsOf, within}
 
 -- the characters of a text, in ASCII
 abbrev pub ascii : String → List ℕ

@@ -3,7 +3,7 @@
 ghost use mathlib.Core.Path.{_≡_};
 ghost use Prim.Native.Nat.{_+_, _*_, _≤_};
 ghost use lib.ListN.{length};
-ghost use Rattle.uuid.specs.Uuid.{digitsOf};
+ghost use Rattle.hexadecimal.specs.Hexadecimal.{digitsOf};
 ghost use Rattle.printing.specs.Printing.{Written, decimal, isPlain, shownByte, shown};
 
 // A text.
@@ -21,7 +21,7 @@ pub fn hex(out: &mut [u8], at: usize, bytes: &[u8]) -> usize
     ensures { λ r. ⌜ Written (now (out .entry)) at (digitsOf (now (bytes .entry))) r (now (out .exit)) ⌝ }
     ensures { λ r. ⌜ r ≡ at + 2 * length (now (bytes .entry)) ⌝ }
 {
-    uuid::write_digits(bytes, out, at);
+    hexadecimal::write_digits(bytes, out, at);
     at + 2 * bytes.len()
 }
 

@@ -1,8 +1,8 @@
--- Laws of digits and their octets: lengths, places, one octet more. Assumes nothing.
-use mathlib.Core.Path.{_≡_, refl, ap, ap₂, _∙_}
-use mathlib.Core.Bool.{Bool, true}
-use mathlib.Core.List.{List, [], _∷_, _++_}
-use Prim.Native.Nat.{ℕ, zero, suc, _+_, _*_, _/_, _%_, _<_, _≤_}
+-- Laws of a UUID's groups of digits: lengths, and what stands at each place. Assumes nothing.
+use mathlib.Core.Path.{_≡_, ap, _∙_}
+use mathlib.Core.Bool.{true}
+use mathlib.Core.List.{List, _++_}
+use Prim.Native.Nat.{ℕ, _+_, _*_, _/_, _≤_}
 use native.Mathlib.Omega.{arith}
 use borrow.Author.Tests.{eqb-true}
 use lib.Dec.{eqb}
@@ -10,40 +10,9 @@ use lib.ListN.{length, getD, length-append}
 use Rattle.octets.specs.Lists.{part, length-part}
 use Rattle.octets.specs.Same.{split-and}
 use Rattle.conversion.specs.Conversion.{each}
-use Rattle.uuid.specs.Uuid.{hyphen, isDigit, digitValue, digit, octetsOf, digitsOf, textOf, recordOf, groupAt, formed}
-
-pub length-digits : (r : List ℕ) → length (digitsOf r) ≡ 2 * length r
-unfolding digitsOf
-length-digits [] = refl
-length-digits (b ∷ r) = omega (arith, length-digits r)
-
-pub length-octets : (s : List ℕ) → length (octetsOf s) ≡ length s / 2
-unfolding octetsOf
-length-octets [] = refl
-length-octets (a ∷ []) = refl
-length-octets (a ∷ b ∷ s) = omega (arith, length-octets s)
-
--- the octet at a place is that of the two digits at twice the place
-pub getD-octets : (s : List ℕ) (i : ℕ) → 2 * i + 1 < length s → getD (octetsOf s) i 0 ≡ 16 * digitValue (getD s (2 * i) 0) + digitValue (getD s (2 * i + 1) 0)
-unfolding octetsOf
-getD-octets [] i h = absurd (omega arith)
-getD-octets (a ∷ []) i h = absurd (omega arith)
-getD-octets (a ∷ b ∷ s) zero h = refl
-getD-octets (a ∷ b ∷ s) (suc i) h =
-    let p : suc (suc (2 * i)) ≡ 2 * suc i = omega arith in
-    let q : suc (suc (2 * i + 1)) ≡ 2 * suc i + 1 = omega arith in
-    getD-octets s i (omega arith) ∙ ap₂ (λ (m n : ℕ). 16 * digitValue (getD (a ∷ b ∷ s) m 0) + digitValue (getD (a ∷ b ∷ s) n 0)) p q
-
-pub digits-snoc : (r : List ℕ) (b : ℕ) → digitsOf (r ++ (b ∷ [])) ≡ digitsOf r ++ (digit (b / 16) ∷ digit (b % 16) ∷ [])
-unfolding digitsOf
-digits-snoc [] b = refl
-digits-snoc (x ∷ r) b = ap (λ (s : List ℕ). digit (x / 16) ∷ digit (x % 16) ∷ s) (digits-snoc r b)
-
--- what holds of every element holds of one
-pub each-at : (p : ℕ → Bool) (s : List ℕ) (i : ℕ) → each p s ≡ true → i < length s → p (getD s i 0) ≡ true
-each-at p [] i e h = absurd (omega arith)
-each-at p (c ∷ s) zero e h = split-and (p c) (each p s) e .0
-each-at p (c ∷ s) (suc i) e h = each-at p s i (split-and (p c) (each p s) e .1) (omega arith)
+use Rattle.hexadecimal.specs.Hexadecimal.{isDigit, octetsOf, digitsOf}
+use Rattle.hexadecimal.specs.Laws.{length-digits, length-octets}
+use Rattle.uuid.specs.Uuid.{hyphen, textOf, recordOf, groupAt, formed}
 
 -- a part of a text as octets, and of a record as digits
 pub octets-long : (t : List ℕ) (at n : ℕ) → at + n ≤ length t → length (octetsOf (part t at n)) ≡ n / 2

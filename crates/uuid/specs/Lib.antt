@@ -1,4 +1,3 @@
 pub mod Uuid
-pub mod Digits
 pub mod Groups
 pub mod Numbers

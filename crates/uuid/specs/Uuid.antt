@@ -1,40 +1,16 @@
 -- Document 02, T-05, of UUIDs: "UUID text follows RFC 4122, 36 characters, either case read, small letters written" (RFC 4122, section 3).
-use mathlib.Core.Bool.{Bool, cond, _&&_, _||_, not}
-use mathlib.Core.List.{List, [], _∷_, _++_, map}
-use Prim.Native.Nat.{ℕ, _+_, _*_, _-_, _/_, _%_}
-use lib.Dec.{eqb, ltb, leb}
+use mathlib.Core.Bool.{Bool, cond, _&&_, not}
+use mathlib.Core.List.{List, _∷_, _++_, map}
+use Prim.Native.Nat.{ℕ, _+_}
+use lib.Dec.{eqb}
 use lib.ListN.{length, getD}
 use Rattle.octets.specs.Lists.{part}
 use Rattle.conversion.specs.Conversion.{misfit, each}
+use Rattle.hexadecimal.specs.Hexadecimal.{within, isDigit, octetsOf, digitsOf}
 
 -- "-", in ASCII
 abbrev pub hyphen : ℕ
 hyphen = 0x2D
-
-abbrev pub within : ℕ → ℕ → ℕ → Bool
-within first last c = leb first c && leb c last
-
--- hexDigit = "0" / .. / "9" / "a" / .. / "f" / "A" / .. / "F"
-unfoldable pub isDigit : ℕ → Bool
-isDigit c = within 0x30 0x39 c || (within 0x41 0x46 c || within 0x61 0x66 c)
-
--- the digit's value: "a" and "A" are ten
-unfoldable pub digitValue : ℕ → ℕ
-digitValue c = cond (leb c 0x39) (c - 0x30) (cond (leb c 0x46) (c - 0x41 + 10) (c - 0x61 + 10))
-
--- "small letters written": the digit of a value below 16
-unfoldable pub digit : ℕ → ℕ
-digit v = cond (ltb v 10) (0x30 + v) (0x61 + (v - 10))
-
--- hexOctet = hexDigit hexDigit: the octets of digits, and the digits of octets. A digit without another is none's
-unfoldable pub octetsOf : List ℕ → List ℕ
-octetsOf [] = []
-octetsOf (a ∷ []) = []
-octetsOf (a ∷ b ∷ s) = (16 * digitValue a + digitValue b) ∷ octetsOf s
-
-unfoldable pub digitsOf : List ℕ → List ℕ
-digitsOf [] = []
-digitsOf (b ∷ r) = digit (b / 16) ∷ digit (b % 16) ∷ digitsOf r
 
 -- UUID = time-low "-" time-mid "-" time-high-and-version "-" clock-seq-and-reserved clock-seq-low "-" node, of 4, 2, 2, 2 and 6 octets: the text of a record
 abbrev pub behindHyphen : List ℕ → List ℕ

@@ -5,98 +5,8 @@ ghost use mathlib.Core.Bool.{true};
 ghost use Prim.Native.Nat.{_+_, _*_, _≤_, _<_};
 ghost use lib.ListN.{length};
 ghost use Rattle.octets.specs.Lists.{over};
-ghost use Rattle.conversion.specs.Conversion.{each, converted, outputAfter};
-ghost use Rattle.uuid.specs.Uuid.{isDigit, digitValue, digit, octetsOf, digitsOf, behindHyphen, textOf, recordOf, groupAt, formed, textNumber, recordNumber};
-
-// Whether a character is a hexadecimal digit, in either case.
-fn is_digit(c: u8) -> bool
-    ensures { λ r. ⌜ r ≡ isDigit c ⌝ }
-{
-    if c < b'0' {
-        return false;
-    }
-    if c <= b'9' {
-        return true;
-    }
-    if c < b'A' {
-        return false;
-    }
-    if c <= b'F' {
-        return true;
-    }
-    if c < b'a' {
-        return false;
-    }
-    c <= b'f'
-}
-
-// Whether every character is one.
-pub fn are_digits(s: &[u8]) -> bool
-    ensures { λ r. ⌜ r ≡ each isDigit (now (s .entry)) ⌝ }
-{
-    let mut ok = true;
-    let mut i: usize = 0;
-    while i < s.len() {
-        ok = octets::both(ok, is_digit(s[i]));
-        i += 1;
-    }
-    ok
-}
-
-// The value of a digit.
-fn digit_value(c: u8) -> u8
-    requires { ⌜ isDigit c ≡ true ⌝ }
-    ensures { λ r. ⌜ r ≡ digitValue c ⌝ }
-    ensures { λ r. ⌜ r < 16 ⌝ }
-{
-    if c <= b'9' {
-        return c - b'0';
-    }
-    if c <= b'F' {
-        return c - b'A' + 10;
-    }
-    c - b'a' + 10
-}
-
-// The digit of a value, a small letter from ten on.
-fn digit(v: u8) -> u8
-    requires { ⌜ v < 16 ⌝ }
-    ensures { λ r. ⌜ r ≡ digit v ⌝ }
-{
-    if v < 10 {
-        return b'0' + v;
-    }
-    b'a' + (v - 10)
-}
-
-// The octets of a group of digits, written over the output from a place on.
-pub fn read_group(digits: &[u8], out: &mut [u8], at: usize)
-    requires { ⌜ (each isDigit (now digits) ≡ true) × (at + length (octetsOf (now digits)) ≤ length (now out)) ⌝ }
-    ensures { λ _. ⌜ now (out .exit) ≡ over (now (out .entry)) at (octetsOf (now (digits .entry))) ⌝ }
-{
-    let n = digits.len() / 2;
-    let mut i: usize = 0;
-    while i < n {
-        let high = digit_value(digits[2 * i]);
-        let low = digit_value(digits[2 * i + 1]);
-        out[at + i] = 16 * high + low;
-        i += 1;
-    }
-}
-
-// The digits of some octets, written over the output from a place on.
-pub fn write_digits(octets: &[u8], out: &mut [u8], at: usize)
-    requires { ⌜ at + 2 * length (now octets) ≤ length (now out) ⌝ }
-    ensures { λ _. ⌜ now (out .exit) ≡ over (now (out .entry)) at (digitsOf (now (octets .entry))) ⌝ }
-{
-    let mut i: usize = 0;
-    while i < octets.len() {
-        let b = octets[i];
-        let two = [digit(b / 16), digit(b % 16)];
-        octets::copy_at(out, at + 2 * i, &two);
-        i += 1;
-    }
-}
+ghost use Rattle.conversion.specs.Conversion.{converted, outputAfter};
+ghost use Rattle.uuid.specs.Uuid.{behindHyphen, textOf, recordOf, groupAt, formed, textNumber, recordNumber};
 
 // The same behind a hyphen.
 fn write_group(octets: &[u8], out: &mut [u8], at: usize)
@@ -105,7 +15,7 @@ fn write_group(octets: &[u8], out: &mut [u8], at: usize)
 {
     let mark = [b'-'];
     octets::copy_at(out, at, &mark);
-    write_digits(octets, out, at + 1);
+    hexadecimal::write_digits(octets, out, at + 1);
 }
 
 // Whether a hyphen stands at a place, and n digits behind it.
@@ -115,7 +25,7 @@ fn group_at(text: &[u8], at: usize, n: usize) -> bool
 {
     let mark = text[at] == b'-';
     let digits = octets::part_of(text, at + 1, n);
-    octets::both(mark, are_digits(digits))
+    octets::both(mark, hexadecimal::are_digits(digits))
 }
 
 // Whether every character is one that RFC 4122 has at its place.
@@ -124,7 +34,7 @@ fn formed(text: &[u8]) -> bool
     ensures { λ r. ⌜ r ≡ formed (now (text .entry)) ⌝ }
 {
     let first = octets::part_of(text, 0, 8);
-    let low = are_digits(first);
+    let low = hexadecimal::are_digits(first);
     let mid = group_at(text, 8, 4);
     let high = group_at(text, 13, 4);
     let clock = group_at(text, 18, 4);
@@ -145,11 +55,11 @@ fn read(text: &[u8], out: &mut [u8])
     let high = octets::part_of(text, 14, 4);
     let clock = octets::part_of(text, 19, 4);
     let node = octets::part_of(text, 24, 12);
-    read_group(low, out, 0);
-    read_group(mid, out, 4);
-    read_group(high, out, 6);
-    read_group(clock, out, 8);
-    read_group(node, out, 10);
+    hexadecimal::read_digits(low, out, 0);
+    hexadecimal::read_digits(mid, out, 4);
+    hexadecimal::read_digits(high, out, 6);
+    hexadecimal::read_digits(clock, out, 8);
+    hexadecimal::read_digits(node, out, 10);
 }
 
 // The text of sixteen octets.
@@ -162,7 +72,7 @@ fn write(bytes: &[u8], out: &mut [u8])
     let high = octets::part_of(bytes, 6, 2);
     let clock = octets::part_of(bytes, 8, 2);
     let node = octets::part_of(bytes, 10, 6);
-    write_digits(low, out, 0);
+    hexadecimal::write_digits(low, out, 0);
     write_group(mid, out, 8);
     write_group(high, out, 13);
     write_group(clock, out, 18);

@@ -9,8 +9,7 @@ use Rattle.wiegand.specs.Wiegand.{recordNumber, textOf}
 use Rattle.printing.specs.Printing.{ascii}
 use Rattle.door_answers.specs.Answer.{apart, ofRecord}
 use Rattle.printing.specs.Laws.{written-as, written-next}
-use Rattle.door_answers.specs.Parts.{length-letters}
-use Rattle.door_answers.specs.Ways.{number-told, result-fault, result-made, output-made}
+use Rattle.door_answers.specs.Ways.{number-told, result-fault, result-made, output-made, length-letters}
 use borrow.Author.Needs.{needs}
 use Rattle.door_answers.proofs.of_record.Statement.{statement}
 use Rattle.door_answers.proofs.of_record.Tie as tie

@@ -7,8 +7,8 @@ use lib.ListN.{length, replicate}
 use mathlib.Core.Bool.{true, false}
 use borrow.Author.Tests.{not-true, not-false}
 use Rattle.conversion.specs.Conversion.{each}
-use Rattle.uuid.specs.Uuid.{isDigit, octetsOf}
-use Rattle.uuid.specs.Groups.{length-octets}
+use Rattle.hexadecimal.specs.Hexadecimal.{isDigit, octetsOf}
+use Rattle.hexadecimal.specs.Laws.{length-octets}
 use Rattle.door_answers.specs.Answer.{ofUuidRecord}
 use Rattle.printing.specs.Laws.{written-as}
 use Rattle.door_answers.specs.Ways.{over-all, hexadecimal-fault, hexadecimal-read}
@@ -31,11 +31,11 @@ returns c =
     let digits : each isDigit (a .line .now) ≡ false = sym (c .before .before .before .before .before .are-digits .ensures) ∙ not-true _ (c .before .before .before .before .if1 .taken) in
     (written-as (a .out .now) (a .at) (hexadecimal-fault (a .line .now) ofUuidRecord digits) (c .before .before .fault .ensures .0), search needs)
 
-slice-aggregate-read-group : tie.Need-slice-aggregate-read-group
-slice-aggregate-read-group c = search needs
+slice-aggregate-read-digits : tie.Need-slice-aggregate-read-digits
+slice-aggregate-read-digits c = search needs
 
-read-group-requires : tie.Need-read-group-requires
-read-group-requires c κs =
+read-digits-requires : tie.Need-read-digits-requires
+read-digits-requires c κs =
     let start = c .before .before .before .before .before in
     let digits : each isDigit (start .args .line .now) ≡ true = sym (c .before .before .are-digits .ensures) ∙ not-false _ (c .before .if1 .left) in
     (digits, omega (arith, length-octets (start .args .line .now), start .pre .0))
@@ -52,7 +52,7 @@ returns-2 c =
     let a = start .args in
     let digits : each isDigit (a .line .now) ≡ true = sym (c .before .before .before .before .before .before .before .before .are-digits .ensures) ∙ not-false _ (c .before .before .before .before .before .before .before .if1 .left) in
     let long : 16 ≤ length (octetsOf (a .line .now)) = omega (arith, length-octets (a .line .now), start .pre .0) in
-    let read = c .before .before .before .before .before .read-group .ensures ∙ over-all (replicate 16 0) (octetsOf (a .line .now)) long in
+    let read = c .before .before .before .before .before .read-digits .ensures ∙ over-all (replicate 16 0) (octetsOf (a .line .now)) long in
     (written-as (a .out .now) (a .at) (ap ofUuidRecord read ∙ hexadecimal-read (a .line .now) ofUuidRecord digits) (c .before .before .of-uuid-record .ensures .0), search needs)
 
 pub uuid-record-spec : {M : Type 1} → statement M
@@ -63,8 +63,8 @@ uuid-record-spec =
     fault-requires
     same-length
     returns
-    slice-aggregate-read-group
-    read-group-requires
+    slice-aggregate-read-digits
+    read-digits-requires
     of-uuid-record-requires
     same-length-2
     returns-2)

@@ -5,7 +5,8 @@ use Prim.Native.Nat.{ℕ, _≤_}
 use native.Mathlib.Omega.{arith}
 use lib.ListN.{length, replicate}
 use mathlib.Core.Bool.{false}
-use Rattle.uuid.specs.Uuid.{textNumber, recordOf, digitsOf}
+use Rattle.hexadecimal.specs.Hexadecimal.{digitsOf}
+use Rattle.uuid.specs.Uuid.{textNumber, recordOf}
 use Rattle.uuid.specs.Groups.{length-record}
 use Rattle.printing.specs.Printing.{ascii}
 use Rattle.door_answers.specs.Answer.{uuidText}

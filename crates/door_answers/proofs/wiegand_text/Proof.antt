@@ -6,7 +6,7 @@ use Prim.Native.Nat.{ℕ, _≤_}
 use native.Mathlib.Omega.{arith}
 use lib.ListN.{length, replicate}
 use Rattle.wiegand.specs.Wiegand.{textNumber, recordOf}
-use Rattle.uuid.specs.Uuid.{digitsOf}
+use Rattle.hexadecimal.specs.Hexadecimal.{digitsOf}
 use Rattle.printing.specs.Printing.{ascii}
 use Rattle.door_answers.specs.Answer.{apart, wiegandText}
 use Rattle.printing.specs.Laws.{written-as, written-next}

@@ -3,7 +3,7 @@ use Rattle.printing.specs.Laws.{written-next, written-as, shown-plain, s
 use mathlib.Core.Path.{_≡_, sym, _∙_}
 use mathlib.Core.Bool.{true, false}
 use mathlib.Core.List.{[], _∷_}
-use Rattle.uuid.specs.Uuid.{digitsOf}
+use Rattle.hexadecimal.specs.Hexadecimal.{digitsOf}
 use Rattle.printing.specs.Printing.{ascii, isPlain}
 use native.Mathlib.Omega.{arith}
 use borrow.Author.Needs.{needs}

@@ -2,7 +2,8 @@
 use mathlib.Core.Path.{ap, ap₂, _∙_}
 use mathlib.Core.Bool.{_&&_}
 use Rattle.conversion.specs.Conversion.{each}
-use Rattle.uuid.specs.Uuid.{isDigit, formed}
+use Rattle.hexadecimal.specs.Hexadecimal.{isDigit}
+use Rattle.uuid.specs.Uuid.{formed}
 use borrow.Author.Needs.{needs}
 use Rattle.uuid.proofs.formed.Statement.{statement}
 use Rattle.uuid.proofs.formed.Tie as tie

@@ -4,7 +4,8 @@ use mathlib.Core.Bool.{Bool, _&&_}
 use lib.Dec.{eqb}
 use lib.ListN.{getD}
 use Rattle.conversion.specs.Conversion.{each}
-use Rattle.uuid.specs.Uuid.{hyphen, isDigit, groupAt}
+use Rattle.hexadecimal.specs.Hexadecimal.{isDigit}
+use Rattle.uuid.specs.Uuid.{hyphen, groupAt}
 use borrow.Author.Needs.{needs}
 use Rattle.uuid.proofs.group_at.Statement.{statement}
 use Rattle.uuid.proofs.group_at.Tie as tie

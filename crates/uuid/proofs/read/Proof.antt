@@ -1,7 +1,8 @@
 -- `read` meets its contract: five groups of octets, one behind the other (`five`). Assumes nothing.
 use native.Mathlib.Omega.{arith}
 use Rattle.octets.specs.Lists.{part}
-use Rattle.uuid.specs.Uuid.{octetsOf, recordOf}
+use Rattle.hexadecimal.specs.Hexadecimal.{octetsOf}
+use Rattle.uuid.specs.Uuid.{recordOf}
 use Rattle.uuid.specs.Groups.{octets-long, group-taken, formed-true}
 use Rattle.uuid.proofs.Writes.{five}
 use borrow.Author.Needs.{needs}
@@ -23,36 +24,36 @@ part-of-requires-4 c κs = search needs
 part-of-requires-5 : tie.Need-part-of-requires-5
 part-of-requires-5 c κs = search needs
 
-read-group-requires : tie.Need-read-group-requires
-read-group-requires c κs =
+read-digits-requires : tie.Need-read-digits-requires
+read-digits-requires c κs =
     let p = c .before .before .before .before .before .before .before .before in
     let t = p .args .text .now in
     let q = group-taken t 0 8 (omega (arith, p .pre .0)) (c .before .before .before .before .before .part-of .ensures) (formed-true t (p .pre .1) .low) in
     (q .0, omega (arith, q .1))
 
-read-group-requires-2 : tie.Need-read-group-requires-2
-read-group-requires-2 c κs =
+read-digits-requires-2 : tie.Need-read-digits-requires-2
+read-digits-requires-2 c κs =
     let p = c .before .before .before .before .before .before .before .before .before .before .before .before in
     let t = p .args .text .now in
     let q = group-taken t 9 4 (omega (arith, p .pre .0)) (c .before .before .before .before .before .before .before .before .part-of2 .ensures) (formed-true t (p .pre .1) .mid .1) in
     (q .0, omega (arith, q .1))
 
-read-group-requires-3 : tie.Need-read-group-requires-3
-read-group-requires-3 c κs =
+read-digits-requires-3 : tie.Need-read-digits-requires-3
+read-digits-requires-3 c κs =
     let p = c .before .before .before .before .before .before .before .before .before .before .before .before .before .before .before .before in
     let t = p .args .text .now in
     let q = group-taken t 14 4 (omega (arith, p .pre .0)) (c .before .before .before .before .before .before .before .before .before .before .before .part-of3 .ensures) (formed-true t (p .pre .1) .high .1) in
     (q .0, omega (arith, q .1))
 
-read-group-requires-4 : tie.Need-read-group-requires-4
-read-group-requires-4 c κs =
+read-digits-requires-4 : tie.Need-read-digits-requires-4
+read-digits-requires-4 c κs =
     let p = c .before .before .before .before .before .before .before .before .before .before .before .before .before .before .before .before .before .before .before .before in
     let t = p .args .text .now in
     let q = group-taken t 19 4 (omega (arith, p .pre .0)) (c .before .before .before .before .before .before .before .before .before .before .before .before .before .before .part-of4 .ensures) (formed-true t (p .pre .1) .clock .1) in
     (q .0, omega (arith, q .1))
 
-read-group-requires-5 : tie.Need-read-group-requires-5
-read-group-requires-5 c κs =
+read-digits-requires-5 : tie.Need-read-digits-requires-5
+read-digits-requires-5 c κs =
     let p = c .before .before .before .before .before .before .before .before .before .before .before .before .before .before .before .before .before .before .before .before .before .before .before .before in
     let t = p .args .text .now in
     let q = group-taken t 24 12 (omega (arith, p .pre .0)) (c .before .before .before .before .before .before .before .before .before .before .before .before .before .before .before .before .before .part-of5 .ensures) (formed-true t (p .pre .1) .node .1) in
@@ -79,7 +80,7 @@ returns c =
     five octetsOf octetsOf (p .args .out .now) (part t 0 8) (part t 9 4) (part t 14 4) (part t 19 4) (part t 24 12) 4 6 8 10
     (octets-long t 0 8 (omega (arith, p .pre .0))) (omega (arith, octets-long t 9 4 (omega (arith, p .pre .0)))) (omega (arith, octets-long t 14 4 (omega (arith, p .pre .0)))) (omega (arith, octets-long t 19 4 (omega (arith, p .pre .0))))
     (g₁ .part-of .ensures) (g₂ .part-of2 .ensures) (g₃ .part-of3 .ensures) (g₄ .part-of4 .ensures) (g₅ .part-of5 .ensures)
-    (w₁ .read-group .ensures) (w₂ .read-group2 .ensures) (w₃ .read-group3 .ensures) (w₄ .read-group4 .ensures) (w₅ .read-group5 .ensures)
+    (w₁ .read-digits .ensures) (w₂ .read-digits2 .ensures) (w₃ .read-digits3 .ensures) (w₄ .read-digits4 .ensures) (w₅ .read-digits5 .ensures)
 
 pub read-spec : {M : Type 1} → statement M
 read-spec =
@@ -90,10 +91,10 @@ read-spec =
     part-of-requires-3
     part-of-requires-4
     part-of-requires-5
-    read-group-requires
-    read-group-requires-2
-    read-group-requires-3
-    read-group-requires-4
-    read-group-requires-5
+    read-digits-requires
+    read-digits-requires-2
+    read-digits-requires-3
+    read-digits-requires-4
+    read-digits-requires-5
     same-length
     returns)

@@ -1,7 +1,8 @@
 -- `write` meets its contract: five groups of digits, one behind the other (`five`). Assumes nothing.
 use native.Mathlib.Omega.{arith}
 use Rattle.octets.specs.Lists.{part, part-long}
-use Rattle.uuid.specs.Uuid.{digitsOf, behindHyphen, textOf}
+use Rattle.hexadecimal.specs.Hexadecimal.{digitsOf}
+use Rattle.uuid.specs.Uuid.{behindHyphen, textOf}
 use Rattle.uuid.specs.Groups.{digits-long}
 use Rattle.uuid.proofs.Writes.{five}
 use borrow.Author.Needs.{needs}

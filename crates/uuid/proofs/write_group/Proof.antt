@@ -3,7 +3,8 @@ use mathlib.Core.Path.{refl}
 use mathlib.Core.List.{[], _∷_}
 use native.Mathlib.Omega.{arith}
 use Rattle.octets.specs.Writes.{over-next}
-use Rattle.uuid.specs.Uuid.{hyphen, digitsOf}
+use Rattle.hexadecimal.specs.Hexadecimal.{digitsOf}
+use Rattle.uuid.specs.Uuid.{hyphen}
 use borrow.Author.Needs.{needs}
 use Rattle.uuid.proofs.write_group.Statement.{statement}
 use Rattle.uuid.proofs.write_group.Tie as tie

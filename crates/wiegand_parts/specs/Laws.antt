@@ -1,5 +1,5 @@
 -- Facility and number of a Wiegand number, by its record's bytes. Assumes nothing.
-use mathlib.Core.Path.{_≡_, refl, sym, ap, ap₂, _∙_, subst}
+use mathlib.Core.Path.{_≡_, refl, sym, ap, ap₂, _∙_}
 use mathlib.Core.List.{List, [], _∷_}
 use Prim.Native.Nat.{ℕ, _+_, _*_, _/_, _%_, _<_}
 use native.Mathlib.Omega.{arith}
@@ -9,8 +9,7 @@ use Rattle.octets.specs.Lists.{part}
 use Rattle.octets.specs.Tests.{below-at}
 use Rattle.binary.specs.Binary.{value, binary, bitsOf}
 use Rattle.binary.specs.Places.{by-places}
-use Rattle.wiegand.specs.Wiegand.{textOf}
-use Rattle.door_answers.specs.Answer.{facilityOf, numberOf}
+use Rattle.wiegand_parts.specs.WiegandParts.{facilityOf, numberOf}
 
 -- eight bits of a number x, which halved again and again is x1 to x7, in front of other bits
 joined : (x x1 x2 x3 x4 x5 x6 x7 b0 b1 b2 b3 b4 b5 b6 rest : ℕ) →
@@ -49,8 +48,3 @@ module _ (r : List ℕ) (four : length r ≡ 4) where
 
   pub number-bytes : getD r 2 0 < 256 → getD r 3 0 < 256 → numberOf r ≡ (getD r 1 0 % 2 * 128 + getD r 2 0 / 2) * 256 + (getD r 2 0 % 2 * 128 + getD r 3 0 / 2)
   number-bytes h k = ap numberOf (sym (by-places 4 r four)) ∙ number-of (getD r 0 0) (getD r 1 0) (getD r 2 0) (getD r 3 0) h k
-
--- a Wiegand number's text has 26 characters
-pub length-letters : (r : List ℕ) → length r ≡ 4 → length (textOf r) ≡ 26
-unfolding textOf bitsOf binary
-length-letters r e = subst (λ (s : List ℕ). length (textOf s) ≡ 26) (by-places 4 r e) refl

@@ -1,15 +1,15 @@
--- `read_group` meets its contract. The loop's invariant: i octets are written (Writes). Assumes nothing.
+-- `read_digits` meets its contract. The loop's invariant: i octets are written (Writes). Assumes nothing.
 use Prim.Native.Nat.{_-_, _≤_}
 use mathlib.Core.Path.{_≡_}
 use native.Mathlib.Omega.{arith}
 use lib.ListN.{length, length-set}
 use lib.Seq.{paste, paste-zero}
-use Rattle.uuid.specs.Uuid.{isDigit, octetsOf}
-use Rattle.uuid.specs.Groups.{length-octets, each-at}
-use Rattle.uuid.proofs.Writes.{octets-turn, octets-all}
+use Rattle.hexadecimal.specs.Hexadecimal.{isDigit, octetsOf}
+use Rattle.hexadecimal.specs.Laws.{length-octets, each-at}
+use Rattle.hexadecimal.proofs.Writes.{octets-turn, octets-all}
 use borrow.Author.Needs.{needs}
-use Rattle.uuid.proofs.read_group.Statement.{statement}
-use Rattle.uuid.proofs.read_group.Tie as tie
+use Rattle.hexadecimal.proofs.read_digits.Statement.{statement}
+use Rattle.hexadecimal.proofs.read_digits.Tie as tie
 
 abbrev Inv-loop : tie.InvT-loop
 Inv-loop digits out₀ at n i₀ out i = (i ≤ n) × (length out ≡ length out₀) × (out ≡ paste out₀ at (octetsOf digits) i)
@@ -82,8 +82,8 @@ returns c =
     let a = c .before .before .before .before .args in
     octets-all (a .out .now) (a .digits .now) (a .at) (q .i) (omega arith) (q .inv .2)
 
-pub read-group-spec : {M : Type 1} → statement M
-read-group-spec =
+pub read-digits-spec : {M : Type 1} → statement M
+read-digits-spec =
     tie.close
     (tie.spec
     Inv-loop

@@ -1,7 +1,7 @@
-// The parts of a Wiegand number, from its record.
+//! Facility and number of a Wiegand number, from its record (document 02, T-05).
 ghost use mathlib.Core.Path.{_≡_};
 ghost use Prim.Native.Nat.{_+_, _*_, _/_, _%_};
-ghost use Rattle.door_answers.specs.Answer.{facilityOf, numberOf};
+ghost use Rattle.wiegand_parts.specs.WiegandParts.{facilityOf, numberOf};
 
 // Eight bits that end with the last but one of `low`: the last of `high`, and seven of `low`.
 fn eight(high: u8, low: u8) -> u8

@@ -1,29 +1,15 @@
--- Laws of one digit: where it stands in ASCII, its value, and its small form. Assumes nothing.
+-- Laws of one character of a UUID: a digit's value and its small form, computed over ASCII. Assumes nothing.
 use mathlib.Core.Path.{_≡_, refl, subst}
-use mathlib.Core.Bool.{Bool, true, false, cond, _&&_, _||_}
-use mathlib.Core.Logic.{_⊎_, inl, inr, ⊎-elim}
-use Prim.Native.Nat.{ℕ, _<_, _≤_}
+use mathlib.Core.Bool.{Bool, true, false, cond, _&&_}
+use Prim.Native.Nat.{ℕ, _<_}
 use native.Mathlib.Omega.{arith}
-use borrow.Author.Tests.{leb-true, le-leb, lt-leb, ltb-true, ltb-false, eqb-true}
+use borrow.Author.Tests.{le-leb, lt-leb, ltb-true, ltb-false, eqb-true}
 use lib.Dec.{T, eqb, ltb, leb}
 use Rattle.octets.specs.Same.{split-and}
 use Rattle.octets.specs.Tests.{below, below-at}
-use Rattle.uuid.specs.Uuid.{hyphen, within, isDigit, digitValue, digit, small}
-
-or-true : (a b : Bool) → (a || b) ≡ true → (a ≡ true) ⊎ (b ≡ true)
-or-true true b e = inl refl
-or-true false b e = inr e
-
-within-true : (first last c : ℕ) → within first last c ≡ true → (first ≤ c) × (c ≤ last)
-within-true first last c e = let p = split-and (leb first c) (leb c last) e in (leb-true first c (p .0), leb-true c last (p .1))
-
--- what holds in each of the three ranges of ASCII holds of a digit
-pub digit-cases : {P : Type 0} (c : ℕ) → isDigit c ≡ true → ((0x30 ≤ c) × (c ≤ 0x39) → P) → ((0x41 ≤ c) × (c ≤ 0x46) → P) → ((0x61 ≤ c) × (c ≤ 0x66) → P) → P
-unfolding isDigit
-digit-cases c e number capital letter =
-    ⊎-elim (λ p. number (within-true 0x30 0x39 c p))
-    (λ q. ⊎-elim (λ p. capital (within-true 0x41 0x46 c p)) (λ p. letter (within-true 0x61 0x66 c p)) (or-true (within 0x41 0x46 c) (within 0x61 0x66 c) q))
-    (or-true (within 0x30 0x39 c) (within 0x41 0x46 c || within 0x61 0x66 c) e)
+use Rattle.hexadecimal.specs.Hexadecimal.{isDigit, digitValue, digit}
+use Rattle.hexadecimal.specs.Laws.{digit-cases}
+use Rattle.uuid.specs.Uuid.{hyphen, small}
 
 -- what a test of the characters says of each digit, and of the digit of each value
 test-true : (t : Bool) → T t → t ≡ true

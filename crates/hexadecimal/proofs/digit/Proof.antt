@@ -2,10 +2,10 @@
 use Prim.Native.Nat.{_+_, _-_}
 use mathlib.Core.Path.{_≡_, sym}
 use borrow.Author.Tests.{lt-ltb, le-ltb}
-use Rattle.uuid.specs.Uuid.{digit}
+use Rattle.hexadecimal.specs.Hexadecimal.{digit}
 use borrow.Author.Needs.{needs}
-use Rattle.uuid.proofs.digit.Statement.{statement}
-use Rattle.uuid.proofs.digit.Tie as tie
+use Rattle.hexadecimal.proofs.digit.Statement.{statement}
+use Rattle.hexadecimal.proofs.digit.Tie as tie
 
 add-result : tie.Need-add-result
 add-result c = search needs

@@ -6,10 +6,10 @@ use native.Mathlib.Omega.{arith}
 use lib.ListN.{length, drop}
 use Rattle.conversion.specs.Conversion.{each}
 use Rattle.conversion.specs.Answers.{each-turn, each-done}
-use Rattle.uuid.specs.Uuid.{isDigit}
+use Rattle.hexadecimal.specs.Hexadecimal.{isDigit}
 use borrow.Author.Needs.{needs}
-use Rattle.uuid.proofs.are_digits.Statement.{statement}
-use Rattle.uuid.proofs.are_digits.Tie as tie
+use Rattle.hexadecimal.proofs.are_digits.Statement.{statement}
+use Rattle.hexadecimal.proofs.are_digits.Tie as tie
 
 abbrev Inv-loop : tie.InvT-loop
 Inv-loop s ok₀ i₀ ok i = (i ≤ length s) × ((ok && each isDigit (drop i s)) ≡ each isDigit s)

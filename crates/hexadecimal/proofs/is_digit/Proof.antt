@@ -3,9 +3,9 @@ use mathlib.Core.Path.{_≡_, sym}
 use native.Mathlib.Omega.{arith}
 use borrow.Author.Tests.{le-leb, lt-leb}
 use lib.Dec.{leb}
-use Rattle.uuid.specs.Uuid.{isDigit}
-use Rattle.uuid.proofs.is_digit.Statement.{statement}
-use Rattle.uuid.proofs.is_digit.Tie as tie
+use Rattle.hexadecimal.specs.Hexadecimal.{isDigit}
+use Rattle.hexadecimal.proofs.is_digit.Statement.{statement}
+use Rattle.hexadecimal.proofs.is_digit.Tie as tie
 
 returns : tie.Need-returns
 unfolding isDigit

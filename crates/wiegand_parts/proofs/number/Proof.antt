@@ -1,13 +1,13 @@
--- `parts::number` meets its contract: the bits by the record's bytes. Assumes nothing.
+-- `number` meets its contract: the bits by the record's bytes. Assumes nothing.
 use mathlib.Core.Path.{sym, ap₂, _∙_}
 use Prim.Native.Nat.{ℕ, _+_, _*_}
 use borrow.Author.Needs.{needs}
 use mir.Val.{Fits}
 use mir.Syntax.{w8}
 use lib.ListN.{getD}
-use Rattle.door_answers.specs.Parts.{number-bytes}
-use Rattle.door_answers.proofs.parts.number.Statement.{statement}
-use Rattle.door_answers.proofs.parts.number.Tie as tie
+use Rattle.wiegand_parts.specs.Laws.{number-bytes}
+use Rattle.wiegand_parts.proofs.number.Statement.{statement}
+use Rattle.wiegand_parts.proofs.number.Tie as tie
 
 array-read-eight : tie.Need-array-read-eight
 array-read-eight c = search needs

@@ -3,11 +3,11 @@ use Prim.Native.Nat.{_+_, _-_}
 use mathlib.Core.Path.{_≡_, sym}
 use native.Mathlib.Omega.{arith}
 use borrow.Author.Tests.{le-leb, lt-leb}
-use Rattle.uuid.specs.Uuid.{digitValue}
-use Rattle.uuid.specs.Digits.{digit-cases}
+use Rattle.hexadecimal.specs.Hexadecimal.{digitValue}
+use Rattle.hexadecimal.specs.Laws.{digit-cases}
 use borrow.Author.Needs.{needs}
-use Rattle.uuid.proofs.digit_value.Statement.{statement}
-use Rattle.uuid.proofs.digit_value.Tie as tie
+use Rattle.hexadecimal.proofs.digit_value.Statement.{statement}
+use Rattle.hexadecimal.proofs.digit_value.Tie as tie
 
 sub-result : tie.Need-sub-result
 sub-result c = digit-cases (c .before .args .c) (c .before .pre) (λ p. omega arith) (λ p. omega arith) (λ p. omega arith)

@@ -5,11 +5,11 @@ use native.Mathlib.Omega.{arith}
 use lib.ListN.{length, take}
 use lib.Seq.{take-all}
 use Rattle.octets.specs.Lists.{over, over-none}
-use Rattle.uuid.specs.Uuid.{digitsOf}
-use Rattle.uuid.proofs.Writes.{digits-turn}
+use Rattle.hexadecimal.specs.Hexadecimal.{digitsOf}
+use Rattle.hexadecimal.proofs.Writes.{digits-turn}
 use borrow.Author.Needs.{needs}
-use Rattle.uuid.proofs.write_digits.Statement.{statement}
-use Rattle.uuid.proofs.write_digits.Tie as tie
+use Rattle.hexadecimal.proofs.write_digits.Statement.{statement}
+use Rattle.hexadecimal.proofs.write_digits.Tie as tie
 
 abbrev Inv-loop : tie.InvT-loop
 Inv-loop octets out₀ at i₀ out i = (i ≤ length octets) × (length out ≡ length out₀) × (out ≡ over out₀ at (digitsOf (take i octets)))

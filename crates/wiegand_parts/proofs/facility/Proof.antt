@@ -1,12 +1,12 @@
--- `parts::facility` meets its contract: the bits by the record's bytes. Assumes nothing.
+-- `facility` meets its contract: the bits by the record's bytes. Assumes nothing.
 use mathlib.Core.Path.{sym, _∙_}
 use borrow.Author.Needs.{needs}
 use mir.Val.{Fits}
 use mir.Syntax.{w8}
 use lib.ListN.{getD}
-use Rattle.door_answers.specs.Parts.{facility-bytes}
-use Rattle.door_answers.proofs.parts.facility.Statement.{statement}
-use Rattle.door_answers.proofs.parts.facility.Tie as tie
+use Rattle.wiegand_parts.specs.Laws.{facility-bytes}
+use Rattle.wiegand_parts.proofs.facility.Statement.{statement}
+use Rattle.wiegand_parts.proofs.facility.Tie as tie
 
 array-read-eight : tie.Need-array-read-eight
 array-read-eight c = search needs

@@ -1,0 +1,2 @@
+pub mod WiegandParts
+pub mod Laws
