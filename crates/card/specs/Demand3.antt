@@ -21,12 +21,16 @@ use Rattle.cbc.specs.Cbc.{encrypted, zeros}
 use Rattle.final_command.specs.Final.{sizeOf, acceptsFinal, replyKey, replyText, replyBuffer, finalBytes, finalReply}
 use Rattle.final_command.specs.Laws.{Stored, final-length, final-comparisons, final-decipherments, final-encipherments, final-expansions, final-hash-blocks, size-loaded}
 use Rattle.plaid_types.specs.Keys.{keyLengthOf, held, str1Length}
-use Rattle.plaid_types.specs.Cards.{noSession, withSession, Reply}
+use Rattle.plaid_types.specs.Tries.{triesAfter}
+use Rattle.plaid_types.specs.Cards.{noSession, withSession, withTries, Reply}
 use Rattle.plaid_types.specs.declared.Session.{Session}
+use Rattle.plaid_types.specs.declared.Tries.{Tries}
 use Rattle.plaid_types.specs.declared.Card.{Card}
 use Rattle.plaid_types.specs.declared.Outcome.{Outcome}
-use Rattle.card.specs.Command.{replyTo, told, done, undone, verdictOn, outcome, answerBytes}
-use Rattle.card.specs.Lists.{Call, outcomeOf, bytesOf, run, cardAfter, isInitial, nextSession, sessionAfter, stepsOf, Shape, shapeOf, initialShape, finalShape, declineShape, formulas, formulasOf, Alike, AllAlike, none, more, Agree, accepted, SameAnswer, Indistinct}
+use Rattle.card.specs.Command.{replyTo, refusesFinal, told, done, undone, verdictOn, outcome, answerBytes}
+use Rattle.card.specs.After.{refusedTry}
+use Rattle.card.specs.Unseen.{reply-unseen}
+use Rattle.card.specs.Lists.{Call, outcomeOf, bytesOf, run, cardAfter, isDeclined, isInitial, nextSession, sessionAfter, stepsOf, Shape, shapeOf, initialShape, finalShape, declineShape, formulas, formulasOf, Alike, AllAlike, none, more, Agree, accepted, SameAnswer, Indistinct}
 
 -- what the theorems ask of a card: what a load and every call leave true of it
 pub record Sound (c : Card) : Type 0 where
@@ -73,54 +77,59 @@ final-shape c cmd fresh s ld =
     )
 
 -- one call
-module _ (c : Card) (cmd fresh : List ℕ) (room : ℕ) where
+module _ (c : Card) (i : ℕ) (cmd fresh : List ℕ) (room : ℕ) where
+  tries : Tries
+  tries = triesAfter i (refusesFinal c cmd) (c .tries)
+
   ins-shape : (t : Bool) → Sound c → length fresh ≡ 253 → length (dataOf cmd) ≡ lcOf (frameOf cmd) →
       shapeOf (told (cond t (initialReply c (dataOf cmd) fresh) (finalReply c (dataOf cmd) fresh))) ≡ cond t (initialShape (lcOf (frameOf cmd))) (finalShape (keyLengthOf c) (c .«reply_size») (lcOf (frameOf cmd)))
   ins-shape true s lf ld = initial-shape c cmd fresh s lf ld
   ins-shape false s lf ld = final-shape c cmd fresh s ld
 
-  status-shape : (t : Bool) → eqb (verdictOn (keyLengthOf c) cmd fresh room .status) 0x9000 ≡ t → Sound c →
-      shapeOf (cond {A = Outcome} t (done c (replyTo c cmd fresh)) (undone c (verdictOn (keyLengthOf c) cmd fresh room)) .answer)
-      ≡ cond t (cond (eqb (insOf (frameOf cmd)) initialIns) (initialShape (lcOf (frameOf cmd))) (finalShape (keyLengthOf c) (c .«reply_size») (lcOf (frameOf cmd)))) (declineShape (verdictOn (keyLengthOf c) cmd fresh room))
+  status-shape : (t : Bool) → eqb (verdictOn i (keyLengthOf c) cmd fresh room .status) 0x9000 ≡ t → Sound c →
+      shapeOf (cond {A = Outcome} t (done c tries (replyTo c cmd fresh)) (undone c (verdictOn i (keyLengthOf c) cmd fresh room)) .answer)
+      ≡ cond t (cond (eqb (insOf (frameOf cmd)) initialIns) (initialShape (lcOf (frameOf cmd))) (finalShape (keyLengthOf c) (c .«reply_size») (lcOf (frameOf cmd)))) (declineShape (verdictOn i (keyLengthOf c) cmd fresh room))
   unfolding replyTo
   status-shape true e s =
-      let p = passed (keyLengthOf c) (length cmd) (frameOf cmd) fresh room (eqb-true _ _ e) in
+      let p = passed i (keyLengthOf c) (length cmd) (frameOf cmd) fresh room (eqb-true _ _ e) in
       ins-shape (eqb (insOf (frameOf cmd)) initialIns) s (p .fresh-long) (data-long cmd (p .frame))
   status-shape false e s = refl
 
-  one-shape : Sound c → shapeOf (outcome c cmd fresh room .answer) ≡ formulas (keyLengthOf c) (c .«reply_size») (length cmd) (frameOf cmd) fresh room
-  unfolding outcome formulas
-  one-shape s = status-shape (eqb (verdictOn (keyLengthOf c) cmd fresh room .status) 0x9000) refl s
+  one-shape : Sound c → shapeOf (outcome c i cmd fresh room .answer) ≡ formulas i (keyLengthOf c) (c .«reply_size») (length cmd) (frameOf cmd) fresh room
+  unfolding outcome formulas tries
+  one-shape s = status-shape (eqb (verdictOn i (keyLengthOf c) cmd fresh room .status) 0x9000) refl s
 
   card-cases : (t : Bool) →
-      cond {A = Outcome} t (done c (replyTo c cmd fresh)) (undone c (verdictOn (keyLengthOf c) cmd fresh room)) .card
-      ≡ withSession c (cond t (replyTo c cmd fresh .session) (c .session))
+      cond {A = Outcome} t (done c tries (replyTo c cmd fresh)) (undone c (verdictOn i (keyLengthOf c) cmd fresh room)) .card
+      ≡ withTries (withSession c (cond t (replyTo c cmd fresh .session) (c .session))) (triesAfter i (t && refusesFinal c cmd) (c .tries))
+  unfolding tries triesAfter
   card-cases true = refl
   card-cases false = refl
 
-  -- the next card differs in its session alone
-  pub card-kept : outcome c cmd fresh room .card ≡ withSession c (cond (eqb (verdictOn (keyLengthOf c) cmd fresh room .status) 0x9000) (replyTo c cmd fresh .session) (c .session))
-  unfolding outcome
-  card-kept = card-cases (eqb (verdictOn (keyLengthOf c) cmd fresh room .status) 0x9000)
+  -- the next card differs in its state alone
+  pub card-kept : outcome c i cmd fresh room .card
+      ≡ withTries (withSession c (cond (eqb (verdictOn i (keyLengthOf c) cmd fresh room .status) 0x9000) (replyTo c cmd fresh .session) (c .session))) (triesAfter i (refusedTry c i cmd fresh room) (c .tries))
+  unfolding outcome tries refusedTry
+  card-kept = card-cases (eqb (verdictOn i (keyLengthOf c) cmd fresh room .status) 0x9000)
 
   reply-rnd1 : (t : Bool) → length fresh ≡ 253 → length (cond t (initialReply c (dataOf cmd) fresh) (finalReply c (dataOf cmd) fresh) .session .rnd1) ≡ 32
   unfolding finalReply
   reply-rnd1 true lf = initial-rnd1 c (dataOf cmd) fresh lf
   reply-rnd1 false lf = refl
 
-  next-rnd1 : (t : Bool) → eqb (verdictOn (keyLengthOf c) cmd fresh room .status) 0x9000 ≡ t → length (c .session .rnd1) ≡ 32 → length (cond t (replyTo c cmd fresh .session) (c .session) .rnd1) ≡ 32
+  next-rnd1 : (t : Bool) → eqb (verdictOn i (keyLengthOf c) cmd fresh room .status) 0x9000 ≡ t → length (c .session .rnd1) ≡ 32 → length (cond t (replyTo c cmd fresh .session) (c .session) .rnd1) ≡ 32
   unfolding replyTo
-  next-rnd1 true e h = reply-rnd1 (eqb (insOf (frameOf cmd)) initialIns) (passed (keyLengthOf c) (length cmd) (frameOf cmd) fresh room (eqb-true _ _ e) .fresh-long)
+  next-rnd1 true e h = reply-rnd1 (eqb (insOf (frameOf cmd)) initialIns) (passed i (keyLengthOf c) (length cmd) (frameOf cmd) fresh room (eqb-true _ _ e) .fresh-long)
   next-rnd1 false e h = h
 
-  sound-kept : Sound c → Sound (outcome c cmd fresh room .card)
+  sound-kept : Sound c → Sound (outcome c i cmd fresh room .card)
   sound-kept s =
       rw card-kept
       (record {
         sets = s .sets;
         modes = s .modes;
         div = s .div;
-        stored = record { sets = s .stored .sets; shill = s .stored .shill; rnd1 = next-rnd1 (eqb (verdictOn (keyLengthOf c) cmd fresh room .status) 0x9000) refl (s .stored .rnd1) };
+        stored = record { sets = s .stored .sets; shill = s .stored .shill; rnd1 = next-rnd1 (eqb (verdictOn i (keyLengthOf c) cmd fresh room .status) 0x9000) refl (s .stored .rnd1) };
         size = s .size;
       })
 
@@ -130,9 +139,9 @@ unfolding run
 list-formulas [] c s = refl
 list-formulas (x ∷ xs) c s =
     let k : Card = outcomeOf c x .card in
-    let z : k .«reply_size» ≡ c .«reply_size» = ap (λ (e : Card). e .«reply_size») (card-kept c (x .command) (x .fresh) (x .room)) in
-    let w : keyLengthOf k ≡ keyLengthOf c = ap keyLengthOf (card-kept c (x .command) (x .fresh) (x .room)) in
-    rw (one-shape c (x .command) (x .fresh) (x .room) s, list-formulas xs k (sound-kept c (x .command) (x .fresh) (x .room) s), w, z)
+    let z : k .«reply_size» ≡ c .«reply_size» = ap (λ (e : Card). e .«reply_size») (card-kept c (x .interface) (x .command) (x .fresh) (x .room)) in
+    let w : keyLengthOf k ≡ keyLengthOf c = ap keyLengthOf (card-kept c (x .interface) (x .command) (x .fresh) (x .room)) in
+    rw (one-shape c (x .interface) (x .command) (x .fresh) (x .room) s, list-formulas xs k (sound-kept c (x .interface) (x .command) (x .fresh) (x .room) s), w, z)
 
 -- the session of a reply, from the load and the call
 session-initial : (c : Card) (s : Session) (d fresh : List ℕ) (t : Bool) → acceptsInitial c d ≡ t →
@@ -145,74 +154,100 @@ both-cond : (a b : Bool) (s : Session) → cond a (cond b s noSession) noSession
 both-cond true b s = refl
 both-cond false b s = refl
 
-module _ (c : Card) (s : Session) (x : Call) where
+-- a card that is c but for its state
+abbrev pub LoadedAs : Card → Card → Type 0
+LoadedAs c k = k ≡ withTries (withSession c (k .session)) (k .tries)
+
+module _ (c k : Card) (q : LoadedAs c k) (x : Call) where
   d : List ℕ
   d = dataOf (x .command)
 
-  ins-session : (t : Bool) → cond t (initialReply (withSession c s) d (x .fresh)) (finalReply (withSession c s) d (x .fresh)) .session
+  ins-session : (t : Bool) → cond t (initialReply (withSession c (k .session)) d (x .fresh)) (finalReply (withSession c (k .session)) d (x .fresh)) .session
       ≡ cond t (cond (acceptsInitial c d) (initialReply c d (x .fresh) .session) noSession) noSession
   unfolding finalReply
-  ins-session true = session-initial c s d (x .fresh) (acceptsInitial c d) refl
+  ins-session true = session-initial c (k .session) d (x .fresh) (acceptsInitial c d) refl
   ins-session false = refl
 
   next-cases : (t : Bool) →
-      cond t (replyTo (withSession c s) (x .command) (x .fresh) .session) s ≡ cond (not t) s (cond (isInitial x && acceptsInitial c d) (initialReply c d (x .fresh) .session) noSession)
+      cond t (replyTo (withSession c (k .session)) (x .command) (x .fresh) .session) (k .session)
+      ≡ cond (not t) (k .session) (cond (isInitial x && acceptsInitial c d) (initialReply c d (x .fresh) .session) noSession)
   unfolding replyTo d
   next-cases true = ins-session (isInitial x) ∙ both-cond (isInitial x) (acceptsInitial c d) (initialReply c d (x .fresh) .session)
   next-cases false = refl
 
-  -- a call leaves the session that load, session and call give
-  next-card : outcomeOf (withSession c s) x .card ≡ withSession c (nextSession c s x)
-  unfolding nextSession d
-  next-card =
-      card-kept (withSession c s) (x .command) (x .fresh) (x .room)
-      ∙ ap (withSession c) (next-cases (eqb (verdictOn (keyLengthOf c) (x .command) (x .fresh) (x .room) .status) 0x9000))
+  length-is : keyLengthOf k ≡ keyLengthOf c
+  length-is = ap keyLengthOf q
 
-  sum-cases : (t : Bool) →
-      cond {A = Outcome} t (done (withSession c s) (replyTo (withSession c s) (x .command) (x .fresh))) (undone (withSession c s) (verdictOn (keyLengthOf c) (x .command) (x .fresh) (x .room))) .sum
-      ≡ workSum (cond (not t) [] (replyTo (withSession c s) (x .command) (x .fresh) .steps))
-  sum-cases true = refl
-  sum-cases false = refl
+  reply-is : replyTo k (x .command) (x .fresh) ≡ replyTo (withSession c (k .session)) (x .command) (x .fresh)
+  reply-is = ap (λ (e : Card). replyTo e (x .command) (x .fresh)) q ∙ reply-unseen (withSession c (k .session)) (k .tries) (x .command) (x .fresh)
+
+  -- a call leaves the session that load, session and call give
+  next-session : outcomeOf k x .card .session ≡ nextSession c (k .session) x
+  unfolding nextSession d
+  next-session =
+      ap (λ (e : Card). e .session) (card-kept k (x .interface) (x .command) (x .fresh) (x .room))
+      ∙ ap₂ (λ (n : ℕ) (r : Reply). cond (eqb (verdictOn (x .interface) n (x .command) (x .fresh) (x .room) .status) 0x9000) (r .session) (k .session)) length-is reply-is
+      ∙ next-cases (eqb (verdictOn (x .interface) (keyLengthOf c) (x .command) (x .fresh) (x .room) .status) 0x9000)
+
+  next : Session
+  next = cond (eqb (verdictOn (x .interface) (keyLengthOf k) (x .command) (x .fresh) (x .room) .status) 0x9000) (replyTo k (x .command) (x .fresh) .session) (k .session)
+
+  tried : Tries
+  tried = triesAfter (x .interface) (refusedTry k (x .interface) (x .command) (x .fresh) (x .room)) (k .tries)
+
+  -- and all that the load gave
+  next-loaded : LoadedAs c (outcomeOf k x .card)
+  unfolding next tried
+  next-loaded =
+      let kept = card-kept k (x .interface) (x .command) (x .fresh) (x .room) in
+      kept ∙ ap (λ (e : Card). withTries (withSession e next) tried) q ∙ sym (ap (λ (e : Card). withTries (withSession c (e .session)) (e .tries)) kept)
+
+  sum-cases : (t : Bool) (u : Tries) →
+      cond {A = Outcome} t (done k u (replyTo k (x .command) (x .fresh))) (undone k (verdictOn (x .interface) (keyLengthOf k) (x .command) (x .fresh) (x .room))) .sum
+      ≡ workSum (cond (not t) [] (replyTo k (x .command) (x .fresh) .steps))
+  sum-cases true u = refl
+  sum-cases false u = refl
 
   -- DEMAND 3, the work sum: that of the steps that load, session and call give
-  pub call-sum : outcomeOf (withSession c s) x .sum ≡ workSum (stepsOf c s x)
+  pub call-sum : outcomeOf k x .sum ≡ workSum (stepsOf c (k .session) x)
   unfolding outcome stepsOf
-  call-sum = sum-cases (eqb (verdictOn (keyLengthOf c) (x .command) (x .fresh) (x .room) .status) 0x9000)
+  call-sum =
+      sum-cases (eqb (verdictOn (x .interface) (keyLengthOf k) (x .command) (x .fresh) (x .room) .status) 0x9000) _
+      ∙ ap₂ (λ (n : ℕ) (r : Reply). workSum (cond (isDeclined n x) [] (r .steps))) length-is reply-is
 
--- each place of a list: the calls behind xs run on the card with the session after xs
-pub run-append : (c : Card) (s : Session) (xs ys : List Call) → run (withSession c s) (xs ++ ys) ≡ run (withSession c s) xs ++ run (withSession c (sessionAfter c s xs)) ys
-unfolding run sessionAfter
-run-append c s [] ys = refl
-run-append c s (x ∷ xs) ys =
-    ap (λ (l : List Outcome). outcomeOf (withSession c s) x ∷ l)
-    (ap (λ (k : Card). run k (xs ++ ys)) (next-card c s x)
-    ∙ run-append c (nextSession c s x) xs ys
-    ∙ ap (λ (k : Card). run k xs ++ run (withSession c (sessionAfter c (nextSession c s x) xs)) ys) (sym (next-card c s x)))
+-- the card behind a list is the first one but for its state, with the session after the list
+pub after-loaded : (c k : Card) → LoadedAs c k → (xs : List Call) → LoadedAs c (cardAfter k xs)
+unfolding cardAfter
+after-loaded c k q [] = q
+after-loaded c k q (x ∷ xs) = after-loaded c (outcomeOf k x .card) (next-loaded c k q x) xs
 
--- the card behind a list is the first one with the session after the list
-pub card-after : (c : Card) (s : Session) (xs : List Call) → cardAfter (withSession c s) xs ≡ withSession c (sessionAfter c s xs)
+pub session-after : (c k : Card) → LoadedAs c k → (xs : List Call) → cardAfter k xs .session ≡ sessionAfter c (k .session) xs
 unfolding cardAfter sessionAfter
-card-after c s [] = refl
-card-after c s (x ∷ xs) = ap (λ (k : Card). cardAfter k xs) (next-card c s x) ∙ card-after c (nextSession c s x) xs
+session-after c k q [] = refl
+session-after c k q (x ∷ xs) =
+    session-after c (outcomeOf k x .card) (next-loaded c k q x) xs ∙ ap (λ (s : Session). sessionAfter c s xs) (next-session c k q x)
+
+-- each place of a list: the calls behind xs run on the card that these left
+run-append : (c : Card) (xs ys : List Call) → run c (xs ++ ys) ≡ run c xs ++ run (cardAfter c xs) ys
+unfolding run cardAfter
+run-append c [] ys = refl
+run-append c (x ∷ xs) ys = ap (λ (l : List Outcome). outcomeOf c x ∷ l) (run-append (outcomeOf c x .card) xs ys)
 
 length-run : (c : Card) (xs : List Call) → length (run c xs) ≡ length xs
 unfolding run
 length-run c [] = refl
 length-run c (x ∷ xs) = ap suc (length-run (outcomeOf c x .card) xs)
 
--- DEMAND 3, a place: the outcome of the call x behind the calls xs is that of the loaded card with the session that follows from load and xs
-pub place : (c : Card) (xs ys : List Call) (x : Call) (o : Outcome) → c .session ≡ noSession →
-    getD (run c (xs ++ (x ∷ ys))) (length xs) o ≡ outcomeOf (withSession c (sessionAfter c noSession xs)) x
+-- DEMAND 3, a place: the outcome of the call x behind the calls xs is that of the card that these left
+pub place : (c : Card) (xs ys : List Call) (x : Call) (o : Outcome) → getD (run c (xs ++ (x ∷ ys))) (length xs) o ≡ outcomeOf (cardAfter c xs) x
 unfolding run
-place c xs ys x o e =
-    ap (λ (s : Session). getD (run (withSession c s) (xs ++ (x ∷ ys))) (length xs) o) e
-    ∙ ap (λ (l : List Outcome). getD l (length xs) o) (run-append c noSession xs (x ∷ ys))
-    ∙ getD-at (run (withSession c noSession) xs) (outcomeOf (withSession c (sessionAfter c noSession xs)) x) (run (outcomeOf (withSession c (sessionAfter c noSession xs)) x .card) ys) o (length xs)
-    (length-run (withSession c noSession) xs)
+place c xs ys x o =
+    ap (λ (l : List Outcome). getD l (length xs) o) (run-append c xs (x ∷ ys))
+    ∙ getD-at (run c xs) (outcomeOf (cardAfter c xs) x) (run (outcomeOf (cardAfter c xs) x .card) ys) o (length xs) (length-run c xs)
 
 -- two lists that agree
 formulas-alike : (l b : ℕ) {x y : Call} → Alike x y → formulasOf l b x ≡ formulasOf l b y
-formulas-alike l b {x} {y} a = rw (a .frames, a .lengths, a .fresh, a .rooms)
+formulas-alike l b {x} {y} a = rw (a .interfaces, a .frames, a .lengths, a .fresh, a .rooms)
 
 all-alike : (l b : ℕ) {xs ys : List Call} → AllAlike xs ys → map (formulasOf l b) xs ≡ map (formulasOf l b) ys
 all-alike l b none = refl
@@ -246,14 +281,14 @@ ins-refused c d fresh true e = (ap (λ (r : Reply). r .bytes) (initial-refused c
 ins-refused c d fresh false e = (final-refused c d fresh e, refl)
 
 -- the answer bytes and the handle of a call that is not accepted
-handle-cases : (c : Card) (r : Reply) (v : Verdict) (t : Bool) →
-    cond {A = Outcome} t (done c r) (undone c v) .answer .handle ≡ cond t (r .handle) 0
-handle-cases c r v true = refl
-handle-cases c r v false = refl
+handle-cases : (c : Card) (u : Tries) (r : Reply) (v : Verdict) (t : Bool) →
+    cond {A = Outcome} t (done c u r) (undone c v) .answer .handle ≡ cond t (r .handle) 0
+handle-cases c u r v true = refl
+handle-cases c u r v false = refl
 
 module _ (c : Card) (x : Call) where
   ok : Bool
-  ok = eqb (verdictOn (keyLengthOf c) (x .command) (x .fresh) (x .room) .status) 0x9000
+  ok = eqb (verdictOn (x .interface) (keyLengthOf c) (x .command) (x .fresh) (x .room) .status) 0x9000
 
   bytes-cases : (t : Bool) → (not (not t) && cond (isInitial x) (acceptsInitial c (dataOf (x .command))) (acceptsFinal c (dataOf (x .command)))) ≡ false →
       (cond t (replyTo c (x .command) (x .fresh) .bytes) [] ≡ cond t (refusedBytes (keyLengthOf c) (isInitial x) (c .«shill_key») (sizeOf c) (x .fresh)) [])
@@ -268,19 +303,19 @@ module _ (c : Card) (x : Call) where
 
   refused-handle : accepted c x ≡ false → outcomeOf c x .answer .handle ≡ cond ok (cond (isInitial x) (c .«shill_handle») 0) 0
   unfolding accepted outcome ok
-  refused-handle e = handle-cases c (replyTo c (x .command) (x .fresh)) (verdictOn (keyLengthOf c) (x .command) (x .fresh) (x .room)) ok ∙ bytes-cases ok e .1
+  refused-handle e = handle-cases c _ (replyTo c (x .command) (x .fresh)) (verdictOn (x .interface) (keyLengthOf c) (x .command) (x .fresh) (x .room)) ok ∙ bytes-cases ok e .1
 
 same-answer : (c e : Card) (x y : Call) → Agree c e → Alike x y → accepted c x ≡ false → accepted e y ≡ false → SameAnswer c e x y
 unfolding ok sizeOf
 same-answer c e x y g a n m =
     record {
-      bytes = refused-bytes c x n ∙ rw (a .frames, a .lengths, a .fresh, a .rooms, g .keyLengths, g .key, g .size) (sym (refused-bytes e y m));
-      handle = refused-handle c x n ∙ rw (a .frames, a .lengths, a .fresh, a .rooms, g .keyLengths, g .handle) (sym (refused-handle e y m));
+      bytes = refused-bytes c x n ∙ rw (a .interfaces, a .frames, a .lengths, a .fresh, a .rooms, g .keyLengths, g .key, g .size) (sym (refused-bytes e y m));
+      handle = refused-handle c x n ∙ rw (a .interfaces, a .frames, a .lengths, a .fresh, a .rooms, g .keyLengths, g .handle) (sym (refused-handle e y m));
     }
 
 agree-kept : (c e : Card) (x y : Call) → Agree c e → Agree (outcomeOf c x .card) (outcomeOf e y .card)
 agree-kept c e x y g =
-    rw (card-kept c (x .command) (x .fresh) (x .room), card-kept e (y .command) (y .fresh) (y .room)) (record { keyLengths = g .keyLengths; key = g .key; handle = g .handle; size = g .size })
+    rw (card-kept c (x .interface) (x .command) (x .fresh) (x .room), card-kept e (y .interface) (y .command) (y .fresh) (y .room)) (record { keyLengths = g .keyLengths; key = g .key; handle = g .handle; size = g .size })
 
 -- DEMAND 3, two lists on two cards: where neither accepts, the same answer bytes and key handle, at each place
 pub lists-indistinct : {xs ys : List Call} (c e : Card) → Agree c e → AllAlike xs ys → Indistinct c e xs ys

@@ -1,5 +1,7 @@
 pub mod Command
 pub mod Lists
-pub mod Demand3
 pub mod After
+pub mod Unseen
+pub mod Demand3
+pub mod Tried
 pub mod Ways

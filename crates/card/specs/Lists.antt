@@ -1,4 +1,4 @@
--- Document 01, "Lists of commands", with T-04 of document 02.
+-- Document 01, "Lists of commands", with T-04 and T-06 of document 02.
 use mathlib.Core.Bool.{Bool, false, cond, _&&_, not}
 use mathlib.Core.List.{List, [], _∷_}
 use mathlib.Core.Path.{_≡_}
@@ -19,17 +19,18 @@ use Rattle.plaid_types.specs.declared.Answer.{Answer}
 use Rattle.plaid_types.specs.declared.Outcome.{Outcome}
 use Rattle.card.specs.Command.{replyTo, verdictOn, outcome, answerBytes}
 
--- "A list gives each call its command bytes, fresh bytes and output size, whatever they are."
+-- "A list gives each call its command bytes, fresh bytes and output size, whatever they are." T-06: "Each command call names its interface"
 pub record Call : Type 0 where
+  pub interface : ℕ
   pub command : List ℕ
   pub fresh : List ℕ
   pub room : ℕ
 
 abbrev pub outcomeOf : Card → Call → Outcome
-outcomeOf c x = outcome c (x .command) (x .fresh) (x .room)
+outcomeOf c x = outcome c (x .interface) (x .command) (x .fresh) (x .room)
 
 abbrev pub bytesOf : Card → Call → List ℕ
-bytesOf c x = answerBytes c (x .command) (x .fresh) (x .room)
+bytesOf c x = answerBytes c (x .interface) (x .command) (x .fresh) (x .room)
 
 -- "Each call gets the card that the last one returned, and nothing else changes it in between."
 unfoldable pub run : Card → List Call → List Outcome
@@ -41,9 +42,9 @@ unfoldable pub cardAfter : Card → List Call → Card
 cardAfter c [] = c
 cardAfter c (x ∷ xs) = cardAfter (outcomeOf c x .card) xs
 
--- "A command is declined by 8, 9, 10 or a fault of its frame", of a card with keys of l bytes
+-- "A command is declined by 8, 9, 10 or a fault of its frame", and by T-06 by 26, of a card with keys of l bytes
 abbrev pub isDeclined : ℕ → Call → Bool
-isDeclined l x = not (eqb (verdictOn l (x .command) (x .fresh) (x .room) .status) 0x9000)
+isDeclined l x = not (eqb (verdictOn (x .interface) l (x .command) (x .fresh) (x .room) .status) 0x9000)
 
 abbrev pub isInitial : Call → Bool
 isInitial x = eqb (insOf (frameOf (x .command))) initialIns
@@ -112,18 +113,20 @@ abbrev pub declineShape : Verdict → Shape
 declineShape v = record { number = v .number; status = v .status; comparisons = 0; decipherments = 0; encipherments = 0; expansions = 0; hashBlocks = 0; size = 0 }
 
 -- document 01's formulas "of frame, length and reply size", and T-04: L, "which demand 3's formulas take beside the reply size". l is L, b is B, n the
--- length and f the frame; fresh bytes and output size decide 8 to 10
-unfoldable pub formulas : ℕ → ℕ → ℕ → List ℕ → List ℕ → ℕ → Shape
-formulas l b n f fresh room =
-    cond (eqb (verdict l n f fresh room .status) 0x9000)
+-- length and f the frame; fresh bytes and output size decide 8 to 10, and by T-06 the interface i decides 26
+unfoldable pub formulas : ℕ → ℕ → ℕ → ℕ → List ℕ → List ℕ → ℕ → Shape
+formulas i l b n f fresh room =
+    cond (eqb (verdict i l n f fresh room .status) 0x9000)
     (cond (eqb (insOf f) initialIns) (initialShape (lcOf f)) (finalShape l b (lcOf f)))
-    (declineShape (verdict l n f fresh room))
+    (declineShape (verdict i l n f fresh room))
 
 abbrev pub formulasOf : ℕ → ℕ → Call → Shape
-formulasOf l b x = formulas l b (length (x .command)) (frameOf (x .command)) (x .fresh) (x .room)
+formulasOf l b x = formulas (x .interface) l b (length (x .command)) (frameOf (x .command)) (x .fresh) (x .room)
 
--- where two lists agree: at each place in frame, length, fresh bytes and output size; and "Two lists compared are equally long."
+-- where two lists agree: at each place in frame, length, fresh bytes and output size, and by T-06 in the interface, "alike in two lists compared"; and
+-- "Two lists compared are equally long."
 pub record Alike (x y : Call) : Type 0 where
+  pub interfaces : x .interface ≡ y .interface
   pub frames : frameOf (x .command) ≡ frameOf (y .command)
   pub lengths : length (x .command) ≡ length (y .command)
   pub fresh : x .fresh ≡ y .fresh
@@ -133,7 +136,8 @@ pub data AllAlike : List Call → List Call → Type 0 where
   none : AllAlike [] []
   more : {x y : Call} {xs ys : List Call} → Alike x y → AllAlike xs ys → AllAlike (x ∷ xs) (y ∷ ys)
 
--- where two cards agree: "a shill AES key and a shill RSA handle, together its shill keys", and reply size. T-04: "cards compared share L"
+-- where two cards agree: "a shill AES key and a shill RSA handle, together its shill keys", and reply size. T-04: "cards compared share L". Of their
+-- failed tries nothing is asked (T-06)
 pub record Agree (c e : Card) : Type 0 where
   pub keyLengths : keyLengthOf c ≡ keyLengthOf e
   pub key : c .«shill_key» ≡ e .«shill_key»
@@ -143,6 +147,20 @@ pub record Agree (c e : Card) : Type 0 where
 -- a call is accepted: not declined, and its command accepted by its rule. Every other call is refused or declined
 unfoldable pub accepted : Card → Call → Bool
 accepted c x = not (isDeclined (keyLengthOf c) x) && cond (isInitial x) (acceptsInitial c (dataOf (x .command))) (acceptsFinal c (dataOf (x .command)))
+
+-- T-06, "refused final commands": neither declined nor accepted
+unfoldable pub refusedFinal : Card → Call → Bool
+refusedFinal c x = not (isInitial x) && (not (isDeclined (keyLengthOf c) x) && not (accepted c x))
+
+-- how many of a list's calls on the card c are refused final commands on interface j
+unfoldable pub refusals : ℕ → Card → List Call → ℕ
+refusals j c [] = 0
+refusals j c (x ∷ xs) = cond (refusedFinal c x && eqb (x .interface) j) 1 0 + refusals j (outcomeOf c x .card) xs
+
+-- the answer bytes at each place of a list
+unfoldable pub bytesOfAll : Card → List Call → List (List ℕ)
+bytesOfAll c [] = []
+bytesOfAll c (x ∷ xs) = bytesOf c x ∷ bytesOfAll (outcomeOf c x .card) xs
 
 -- the same answer bytes and key handle
 pub record SameAnswer (c e : Card) (x y : Call) : Type 0 where

@@ -6,22 +6,25 @@ use plaid_types::Answer;
 use plaid_types::Card;
 use plaid_types::Outcome;
 use plaid_types::Session;
+use plaid_types::Tries;
 ghost use mathlib.Core.Path.{_≡_};
 ghost use Prim.Native.Nat.{_-_, _≤_};
 ghost use lib.ListN.{length};
 ghost use Rattle.octets.specs.Lists.{over};
 ghost use Rattle.frame.specs.Frame.{dataOf};
 ghost use Rattle.card.specs.Command.{outcome, answerBytes};
-ghost use Rattle.card.specs.After.{toldOf, afterDecline, afterInitial, afterFinal};
+ghost use Rattle.card.specs.After.{refusedTry, toldOf, afterDecline, afterInitial, afterFinal};
 
-// What a command call hands back, and of the card only the session: `command` copies the card, and the other functions do not.
+// What a command call hands back, and of the card only the session, and whether it was a refused final command: `command` copies the card, and
+// the other functions do not.
 struct Told {
     answer: Answer,
     sum: u32,
     session: Session,
+    refused: bool,
 }
 
-// A decline: no steps, and the session as it was.
+// A decline: no steps, and the session as it was. It is not counted.
 fn decline(session: Session, v: Verdict) -> Told
     ensures { λ r. ⌜ r ≡ afterDecline session v ⌝ }
 {
@@ -39,10 +42,11 @@ fn decline(session: Session, v: Verdict) -> Told
         },
         sum: 0,
         session: session,
+        refused: false,
     }
 }
 
-// An initial command makes comparisons alone.
+// An initial command makes comparisons alone. A refused one is not counted.
 fn after_initial(r: Initial) -> Told
     ensures { λ o. ⌜ o ≡ afterInitial r ⌝ }
 {
@@ -61,6 +65,7 @@ fn after_initial(r: Initial) -> Told
         },
         sum: r.sum,
         session: session,
+        refused: false,
     }
 }
 
@@ -82,6 +87,7 @@ fn after_final(r: Final) -> Told
         },
         sum: r.sum,
         session: Session::none(),
+        refused: !r.accepted,
     }
 }
 
@@ -95,12 +101,12 @@ fn data_of(cmd: &[u8]) -> &[u8]
 }
 
 // The checks of the call, then the command that its INS names.
-fn tell(card: Card, cmd: &[u8], fresh: &[u8], out: &mut [u8]) -> Told
-    ensures { λ r. ⌜ r ≡ toldOf (outcome card (now (cmd .entry)) (now (fresh .entry)) (length (now (out .entry)))) ⌝ }
-    ensures { λ _. ⌜ now (out .exit) ≡ over (now (out .entry)) 0 (answerBytes card (now (cmd .entry)) (now (fresh .entry)) (length (now (out .entry)))) ⌝ }
+fn tell(card: Card, interface: usize, cmd: &[u8], fresh: &[u8], out: &mut [u8]) -> Told
+    ensures { λ r. ⌜ r ≡ toldOf (refusedTry card interface (now (cmd .entry)) (now (fresh .entry)) (length (now (out .entry)))) (outcome card interface (now (cmd .entry)) (now (fresh .entry)) (length (now (out .entry)))) ⌝ }
+    ensures { λ _. ⌜ now (out .exit) ≡ over (now (out .entry)) 0 (answerBytes card interface (now (cmd .entry)) (now (fresh .entry)) (length (now (out .entry)))) ⌝ }
 {
     let l = plaid_types::lawful(card.key_length);
-    let v = frame::check(l, cmd, fresh, out.len());
+    let v = frame::check(interface, l, cmd, fresh, out.len());
     let status = v.status;
     if status != Answer::OK {
         let was = card.session;
@@ -115,18 +121,27 @@ fn tell(card: Card, cmd: &[u8], fresh: &[u8], out: &mut [u8]) -> Told
     after_final(r)
 }
 
-// The one place that copies the card, of which a command changes the session alone.
-pub fn command(card: Card, cmd: &[u8], fresh: &[u8], out: &mut [u8]) -> Outcome
-    ensures told { λ r. ⌜ r ≡ outcome card (now (cmd .entry)) (now (fresh .entry)) (length (now (out .entry))) ⌝ }
-    ensures bytes { λ _. ⌜ now (out .exit) ≡ over (now (out .entry)) 0 (answerBytes card (now (cmd .entry)) (now (fresh .entry)) (length (now (out .entry)))) ⌝ }
+// The one place that copies the card, of which a command changes the session and the failed tries alone.
+pub fn command(card: Card, interface: usize, cmd: &[u8], fresh: &[u8], out: &mut [u8]) -> Outcome
+    ensures told { λ r. ⌜ r ≡ outcome card interface (now (cmd .entry)) (now (fresh .entry)) (length (now (out .entry))) ⌝ }
+    ensures bytes { λ _. ⌜ now (out .exit) ≡ over (now (out .entry)) 0 (answerBytes card interface (now (cmd .entry)) (now (fresh .entry)) (length (now (out .entry)))) ⌝ }
 {
-    let t = tell(card, cmd, fresh, out);
+    let t = tell(card, interface, cmd, fresh, out);
     let answer = t.answer;
     let session = t.session;
-    let next = card.with_session(session);
+    let was = card.tries;
+    let tries = was.after(interface, t.refused);
+    let next = card.with_state(session, tries);
     Outcome {
         answer: answer,
         sum: t.sum,
         card: next,
     }
+}
+
+// The failed tries, as the personaliser reads them.
+pub fn read_tries(card: Card) -> Tries
+    ensures { λ r. ⌜ r ≡ card .tries ⌝ }
+{
+    card.tries
 }

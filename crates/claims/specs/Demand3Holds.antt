@@ -1,22 +1,34 @@
 -- Demand 3 holds. Assumes nothing.
-use mathlib.Core.Path.{ap, _∙_}
+use mathlib.Core.Path.{refl, ap, _∙_}
 use mathlib.Core.List.{map}
 use Prim.Native.Nat.{ℕ}
-use Rattle.plaid_types.specs.Cards.{noSession}
+use Rattle.work.specs.Steps.{workSum}
+use Rattle.plaid_types.specs.declared.Session.{Session}
+use Rattle.plaid_types.specs.declared.Tries.{Tries}
 use Rattle.plaid_types.specs.declared.Outcome.{Outcome}
-use Rattle.card.specs.Lists.{sessionAfter, formulasOf}
-use Rattle.card.specs.Demand3.{list-formulas, place, call-sum, lists-alike, lists-indistinct}
-use Rattle.claims.specs.Load.{cardOf}
+use Rattle.card.specs.Lists.{cardAfter, sessionAfter, stepsOf, formulasOf, Agree}
+use Rattle.card.specs.Demand3.{Sound, list-formulas, place, call-sum, after-loaded, session-after, lists-alike, lists-indistinct}
+use Rattle.claims.specs.Load.{Load, cardOf}
 use Rattle.claims.specs.Loaded.{is-a-load, sound, length-is}
-use Rattle.claims.specs.Demand3.{Demand3Claim}
+use Rattle.claims.specs.Demand3.{cardWith, Demand3Claim}
+
+sound-with : (l : Load) (t : Tries) → Sound (cardWith l t)
+sound-with l t =
+    let k = sound l in
+    record { sets = k .sets; modes = k .modes; div = k .div; stored = record { sets = k .stored .sets; shill = k .stored .shill; rnd1 = k .stored .rnd1 }; size = k .size }
+
+agree-with : (l m : Load) (t u : Tries) → Agree (cardOf l) (cardOf m) → Agree (cardWith l t) (cardWith m u)
+agree-with l m t u g = record { keyLengths = g .keyLengths; key = g .key; handle = g .handle; size = g .size }
 
 pub demand-3 : Demand3Claim
 demand-3 l =
     record {
-      formulas = λ xs. list-formulas xs (cardOf l) (sound l) ∙ ap (λ (n : ℕ). map (formulasOf n (cardOf l .«reply_size»)) xs) (length-is l);
+      formulas = λ t xs. list-formulas xs (cardWith l t) (sound-with l t) ∙ ap (λ (n : ℕ). map (formulasOf n (cardOf l .«reply_size»)) xs) (length-is l);
       sums =
-          λ xs ys x o. ap (λ (r : Outcome). r .sum) (place (cardOf l) xs ys x o (is-a-load l .no-session))
-          ∙ call-sum (cardOf l) (sessionAfter (cardOf l) noSession xs) x;
-      alike = λ m g a. lists-alike (cardOf l) (cardOf m) (sound l) (sound m) g a;
-      indistinct = λ m g a. lists-indistinct (cardOf l) (cardOf m) g a;
+          λ t xs ys x o. ap (λ (r : Outcome). r .sum) (place (cardWith l t) xs ys x o)
+          ∙ call-sum (cardOf l) (cardAfter (cardWith l t) xs) (after-loaded (cardOf l) (cardWith l t) refl xs) x
+          ∙ ap (λ (s : Session). workSum (stepsOf (cardOf l) s x))
+          (session-after (cardOf l) (cardWith l t) refl xs ∙ ap (λ (s : Session). sessionAfter (cardOf l) s xs) (is-a-load l .no-session));
+      alike = λ m t u g a. lists-alike (cardWith l t) (cardWith m u) (sound-with l t) (sound-with m u) (agree-with l m t u g) a;
+      indistinct = λ m t u g a. lists-indistinct (cardWith l t) (cardWith m u) (agree-with l m t u g) a;
     }

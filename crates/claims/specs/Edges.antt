@@ -12,11 +12,13 @@ use Rattle.padding.specs.Method2.{padded, rightly, unpadded}
 use Rattle.padding.specs.declared.Unpadded.the-variants.{Text, Malformed}
 use Rattle.plaid_types.specs.Keys as keys
 use Rattle.plaid_types.specs.Keys.{str1Length}
-use Rattle.plaid_types.specs.Cards.{noSession, withSession}
+use Rattle.plaid_types.specs.Tries.{isInterface, triesAfter}
+use Rattle.plaid_types.specs.Cards.{noSession, withSession, withTries}
 use Rattle.plaid_types.specs.declared.Value.{Value}
 use Rattle.plaid_types.specs.declared.OpModeId.{OpModeId}
 use Rattle.plaid_types.specs.declared.Mode.{Mode}
 use Rattle.plaid_types.specs.declared.Session.{Session}
+use Rattle.plaid_types.specs.declared.Tries.{Tries}
 use Rattle.plaid_types.specs.declared.Card.{Card}
 use Rattle.load.specs.Load.{pastSet, pastMode}
 use Rattle.frame.specs.Frame.{dataOf}
@@ -45,17 +47,22 @@ abbrev pub framed : ℕ → List ℕ → List ℕ
 framed ins d = 0 ∷ ins ∷ 0 ∷ 0 ∷ length d ∷ (d ++ (0 ∷ []))
 
 -- no "8 fresh bytes not 253; 9 a zero pad byte; 10 output below 256"; the pad bytes are those behind the first 50. T-04: "STR1 is then
--- 50, 66 or 82 bytes, and the pad bytes are 203, 187 or 171 of the same 253", of l
-pub record Lent (l : ℕ) (fresh : List ℕ) (room : ℕ) : Type 0 where
+-- 50, 66 or 82 bytes, and the pad bytes are 203, 187 or 171 of the same 253", of l. T-06: and no "26 unknown interface"
+pub record Lent (l i : ℕ) (fresh : List ℕ) (room : ℕ) : Type 0 where
+  pub interface-known : isInterface i ≡ true
   pub fresh-long : length fresh ≡ 253
   pub pads-nonzero : (i : ℕ) → str1Length l ≤ i → i < 253 → getD fresh i 0 ≡ 0 → ⊥
   pub room-enough : 256 ≤ room
 
--- what is said of every call with the command cmd and such fresh bytes and output, on the load's card with any session
+-- the load's card in a state of its own: with the session s and, by T-06, the failed tries u
+abbrev pub inState : Load → Session → Tries → Card
+inState l s u = withTries (withSession (cardOf l) s) u
+
+-- what is said of every call with the command cmd and such an interface, fresh bytes and output, on the load's card in any state
 abbrev pub EachCall : Load → List ℕ → (Card → Call → Type 0) → Type 0
 EachCall l cmd q =
-    (s : Session) (fresh : List ℕ) (room : ℕ) → length (s .rnd1) ≡ 32 → Lent (l .given .«key_length») fresh room →
-    q (withSession (cardOf l) s) (record { command = cmd; fresh = fresh; room = room })
+    (s : Session) (u : Tries) (i : ℕ) (fresh : List ℕ) (room : ℕ) → length (s .rnd1) ≡ 32 → Lent (l .given .«key_length») i fresh room →
+    q (inState l s u) (record { interface = i; command = cmd; fresh = fresh; room = room })
 
 -- "set k, n comparisons", of a call x on the card c: the handle is that of the load's set k; the session is open with KeySetID k and the first L fresh
 -- bytes as RND1, and the card is otherwise the load's; the block is 00 02, the pad bytes, 00, and STR1 = KeySetID, DivData, RND1, RND1
@@ -66,7 +73,7 @@ pub record Answered (l : Load) (k n : ℕ) (c : Card) (x : Call) : Type 0 where
   pub place : ℕ
   pub gave : Gave l place k
   pub handle : outcomeOf c x .answer .handle ≡ getD (l .sets) place pastSet .handle
-  pub card : outcomeOf c x .card ≡ withSession (cardOf l) (openedWith (record { 0 = k }) (part (x .fresh) 0 (l .given .«key_length»)))
+  pub card : outcomeOf c x .card ≡ inState l (openedWith (record { 0 = k }) (part (x .fresh) 0 (l .given .«key_length»))) (c .tries)
   pub block :
       bytesOf c x ≡
       0 ∷ 2 ∷ (drop (str1Length (l .given .«key_length»)) (x .fresh) ++ (0 ∷ k / 256 ∷ k % 256 ∷ (l .given .«div_data» ++ (part (x .fresh) 0 (l .given .«key_length») ++ part (x .fresh) 0 (l .given .«key_length»)))))
@@ -77,7 +84,7 @@ pub record Refused (l : Load) (n : ℕ) (c : Card) (x : Call) : Type 0 where
   pub status : outcomeOf c x .answer .status ≡ 0x9000
   pub comparisons : outcomeOf c x .answer .comparisons ≡ n
   pub handle : outcomeOf c x .answer .handle ≡ l .given .«shill_handle»
-  pub card : outcomeOf c x .card ≡ withSession (cardOf l) noSession
+  pub card : outcomeOf c x .card ≡ inState l noSession (c .tries)
   pub block : bytesOf c x ≡ 0 ∷ 2 ∷ (drop (str1Length (l .given .«key_length»)) (x .fresh) ++ (0 ∷ part (x .fresh) 0 (str1Length (l .given .«key_length»))))
 
 -- "Final: 16 comparisons, n decipherments, B + 1 encipherments, 3 expansions, 1 hash block. Answer length: .. 16B. Status: 9000", with B 3. T-04: "One
@@ -93,11 +100,11 @@ pub record FinalCounts (n e h : ℕ) (c : Card) (x : Call) : Type 0 where
   pub size : outcomeOf c x .answer .length ≡ 48
 
 -- "final, .. B 3: refused, n .., 4 encipherments": the call is not accepted, "the first 16B fresh bytes go by CBC under the shill key, unpadded", and "the
--- session closes either way"
+-- session closes either way". T-06: it is counted, on the call's interface
 pub record FinalRefused (l : Load) (n e h : ℕ) (c : Card) (x : Call) : Type 0 where
   pub counts : FinalCounts n e h c x
   pub handle : outcomeOf c x .answer .handle ≡ 0
-  pub card : outcomeOf c x .card ≡ withSession (cardOf l) noSession
+  pub card : outcomeOf c x .card ≡ inState l noSession (triesAfter (x .interface) true (c .tries))
   pub refused : accepted c x ≡ false
   pub reply : bytesOf c x ≡ encrypted (aesUnder (keys.bytesOf (l .given .«shill_key»))) zeros 3 (part (x .fresh) 0 48)
 

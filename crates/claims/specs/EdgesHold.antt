@@ -1,6 +1,6 @@
 -- Every edge of document 01 that is marked P, and every one of T-01, T-02 and T-04, holds. Assumes nothing.
 use mathlib.Core.Path.{_≡_, refl, sym, subst, ap, ap₂, _∙_}
-use mathlib.Core.Bool.{Bool, true, false, cond}
+use mathlib.Core.Bool.{Bool, true, false, cond, _&&_, not}
 use mathlib.Core.List.{List, [], _∷_, _++_, append-assoc, append-nil}
 use Prim.Native.Nat.{ℕ, zero, suc, _+_, _-_, _*_, _/_, _%_, _<_, _≤_}
 use native.Mathlib.Omega.{arith}
@@ -19,15 +19,17 @@ use Rattle.padding.specs.declared.Unpadded.the-variants.{Text, Malformed}
 use Rattle.key_expansion.specs.KeyLength.{keyLength, length-sixteen}
 use Rattle.plaid_types.specs.Keys as keys
 use Rattle.plaid_types.specs.Keys.{keyLengthOf, str1Length}
-use Rattle.plaid_types.specs.Cards.{withSession, Reply}
+use Rattle.plaid_types.specs.Tries.{isInterface, triesAfter}
+use Rattle.plaid_types.specs.Cards.{Reply}
 use Rattle.plaid_types.specs.declared.KeySetId.{KeySetId}
 use Rattle.plaid_types.specs.declared.KeySetSlot.{KeySetSlot}
 use Rattle.plaid_types.specs.declared.Mode.{Mode}
 use Rattle.plaid_types.specs.declared.ModeSlot.{ModeSlot}
 use Rattle.plaid_types.specs.declared.Session.{Session}
+use Rattle.plaid_types.specs.declared.Tries.{Tries}
 use Rattle.plaid_types.specs.declared.Card.{Card}
 use Rattle.load.specs.Load.{pastMode, replySize, refusal, modesRefusal, loaded}
-use Rattle.load.specs.Laws.{size-below, stocked-session}
+use Rattle.load.specs.Laws.{size-below, stocked-state}
 use Rattle.frame.specs.Frame.{frameOf, initialIns, insOf, lcOf, knownIns, whole, statusOf, dataOf}
 use Rattle.frame.specs.Laws.{frame-byte}
 use Rattle.frame.specs.Framed.{framed-status, framed-data}
@@ -36,7 +38,7 @@ use Rattle.list.specs.Ber.{unsigned, fitting, lengthAt, entryAt, head, walked, 
 use Rattle.list.specs.Laws.{no-FF}
 use Rattle.initial.specs.Initial.{firstSlot, firstPlace, slotOf, acceptsInitial, str1, blockOf, openedWith, initialReply}
 use Rattle.final_command.specs.Final.{textOf, decipheredText, keysHash, modeOf, accepting, acceptsFinal, bodyOf, finalReply}
-use Rattle.card.specs.Command.{replyTo, verdictOn, outcome, answerBytes}
+use Rattle.card.specs.Command.{replyTo, refusesFinal, verdictOn, outcome, answerBytes}
 use Rattle.card.specs.Lists.{Call, outcomeOf, bytesOf, run, accepted, Shape, shapeOf, initialShape, finalShape, formulas}
 use Rattle.card.specs.Demand3.{Sound, list-formulas}
 use Rattle.reader_seal.specs.Seal.{lcOf as lcFor, payloadMost, finalCommand, sealCommand, sealNumber, sealedOf, sealOutput}
@@ -51,15 +53,15 @@ use Rattle.claims.specs.Loaded.{is-a-load, sound, set-slot, slot-given, 
 use Rattle.claims.specs.Loads.{set, mode, given, area, load-of, load-one, one-key, two-keys}
 use Rattle.claims.specs.Reply.{left, named-answer}
 use Rattle.claims.specs.Found.{held-there}
-use Rattle.claims.specs.Edges.{Of, OfAll, Gave, framed, Lent, EachCall, Answered, Refused, FinalCounts, FinalRefused, Final, Counts, Shortest, Records, Longest, Size, lengths, Replies, Seals, SealDeclines, Good, Bad, edges, All, end, _and_}
+use Rattle.claims.specs.Edges.{Of, OfAll, Gave, framed, Lent, inState, EachCall, Answered, Refused, FinalCounts, FinalRefused, Final, Counts, Shortest, Records, Longest, Size, lengths, Replies, Seals, SealDeclines, Good, Bad, edges, All, end, _and_}
 
 -- a KeySetID by its number
 abbrev idOf : ℕ → KeySetId
 idOf k = record { 0 = k }
 
--- the load's card with any session
-sound-in : (l : Load) (s : Session) → length (s .rnd1) ≡ 32 → Sound (withSession (cardOf l) s)
-sound-in l s r = let k = sound l in record { sets = k .sets; modes = k .modes; div = k .div; stored = record { sets = k .stored .sets; shill = k .stored .shill; rnd1 = r }; size = k .size }
+-- the load's card in any state
+sound-in : (l : Load) (s : Session) (u : Tries) → length (s .rnd1) ≡ 32 → Sound (inState l s u)
+sound-in l s u r = let k = sound l in record { sets = k .sets; modes = k .modes; div = k .div; stored = record { sets = k .stored .sets; shill = k .stored .shill; rnd1 = r }; size = k .size }
 
 -- loads with the properties of the edges: set 1, with one record, for keys of k bytes, or with two
 one-record : (k n : ℕ) → keyLength k ≡ true → 0 < n → n ≤ 64 → (l : Load) × ((lengths l ≡ n ∷ []) × Gave l 0 1 × (l .given .«key_length» ≡ k))
@@ -89,21 +91,22 @@ load-two = (
 )
 
 -- there are such fresh bytes and outputs
-pub some-lent : (l : ℕ) → Lent l (replicate 253 1) 256
-some-lent l = record { fresh-long = refl; pads-nonzero = λ i h k e. let q = sym (getD-replicate 253 i 1 0 k) ∙ e in omega arith; room-enough = omega arith }
+pub some-lent : (l : ℕ) → Lent l 1 (replicate 253 1) 256
+unfolding isInterface
+some-lent l = record { interface-known = refl; fresh-long = refl; pads-nonzero = λ i h k e. let q = sym (getD-replicate 253 i 1 0 k) ∙ e in omega arith; room-enough = omega arith }
 
 -- a call is not declined that is lent what it needs and whose frame has no fault
 no-zero : (s : List ℕ) → ((i : ℕ) → i < length s → getD s i 0 ≡ 0 → ⊥) → noZero s ≡ true
 no-zero [] f = refl
 no-zero (b ∷ s) f = rw (ne-eqb b 0 (f 0 (omega arith))) (no-zero s (λ i h. f (suc i) (omega arith)))
 
-passes : (l : ℕ) (cmd fresh : List ℕ) (room : ℕ) → Lent l fresh room → statusOf (length cmd) (frameOf cmd) ≡ 0x9000 → verdictOn l cmd fresh room .status ≡ 0x9000
+passes : (i l : ℕ) (cmd fresh : List ℕ) (room : ℕ) → Lent l i fresh room → statusOf (length cmd) (frameOf cmd) ≡ 0x9000 → verdictOn i l cmd fresh room .status ≡ 0x9000
 unfolding verdict padBytes
-passes l cmd fresh room t e =
+passes i l cmd fresh room t e =
     let n = t .fresh-long in
     let pad : (i : ℕ) → i < length (drop (str1Length l) fresh) → getD (drop (str1Length l) fresh) i 0 ≡ 0 → ⊥ =
     λ i h q. t .pads-nonzero (str1Length l + i) (omega arith) (omega (arith, length-drop (str1Length l) fresh)) (sym (getD-drop (str1Length l) fresh i 0) ∙ q) in
-    rw (eq-eqb (length fresh) 253 n, no-zero (drop (str1Length l) fresh) pad, le-ltb room 256 (t .room-enough)) e
+    rw (t .interface-known, eq-eqb (length fresh) 253 n, no-zero (drop (str1Length l) fresh) pad, le-ltb room 256 (t .room-enough)) e
 
 -- what the frame of a command says
 record Frames (ins : ℕ) (d : List ℕ) : Type 0 where
@@ -114,20 +117,20 @@ frames-any : (ins : ℕ) (d : List ℕ) → knownIns ins ≡ true → 0 < length
 frames-any ins d k h = record { status = framed-status ins (length d) d refl k h; data-is = framed-data ins (length d) d refl }
 
 -- such a call on a load's card: it hands back what the reply says, and its counts are the formulas'
-module _ (l : Load) (ins : ℕ) (d : List ℕ) (f : Frames ins d) (s : Session) (fresh : List ℕ) (room : ℕ) (lr : length (s .rnd1) ≡ 32) (t : Lent (l .given .«key_length») fresh room) where
+module _ (l : Load) (ins : ℕ) (d : List ℕ) (f : Frames ins d) (s : Session) (u : Tries) (i : ℕ) (fresh : List ℕ) (room : ℕ) (lr : length (s .rnd1) ≡ 32) (t : Lent (l .given .«key_length») i fresh room) where
   abbrev c : Card
-  c = withSession (cardOf l) s
+  c = inState l s u
 
   abbrev x : Call
-  x = record { command = framed ins d; fresh = fresh; room = room }
+  x = record { interface = i; command = framed ins d; fresh = fresh; room = room }
 
   reply : Reply
   reply = cond (eqb ins initialIns) (initialReply c d fresh) (finalReply c d fresh)
 
-  taken : eqb (verdictOn (keyLengthOf c) (framed ins d) fresh room .status) 0x9000 ≡ true
+  taken : eqb (verdictOn i (keyLengthOf c) (framed ins d) fresh room .status) 0x9000 ≡ true
   taken =
-      eq-eqb (verdictOn (keyLengthOf c) (framed ins d) fresh room .status) 0x9000
-      (ap (λ (n : ℕ). verdictOn n (framed ins d) fresh room .status) (length-is l) ∙ passes (l .given .«key_length») (framed ins d) fresh room t (f .status))
+      eq-eqb (verdictOn i (keyLengthOf c) (framed ins d) fresh room .status) 0x9000
+      (ap (λ (n : ℕ). verdictOn i n (framed ins d) fresh room .status) (length-is l) ∙ passes i (l .given .«key_length») (framed ins d) fresh room t (f .status))
 
   ins-is : insOf (frameOf (framed ins d)) ≡ ins
   ins-is = frame-byte (framed ins d) 1 (omega arith)
@@ -143,9 +146,9 @@ module _ (l : Load) (ins : ℕ) (d : List ℕ) (f : Frames ins d) (s : Session) 
   unfolding outcome
   call-handle = rw taken (ap (λ (r : Reply). r .handle) reply-is)
 
-  call-card : outcomeOf c x .card ≡ withSession (cardOf l) (reply .session)
-  unfolding outcome
-  call-card = rw taken (ap (λ (r : Reply). withSession c (r .session)) reply-is)
+  call-card : outcomeOf c x .card ≡ inState l (reply .session) (triesAfter i (not (eqb ins initialIns) && not (acceptsFinal c d)) u)
+  unfolding outcome refusesFinal
+  call-card = rw (taken, ins-is, f .data-is) (ap (λ (r : Reply). inState l (r .session) (triesAfter i (not (eqb ins initialIns) && not (acceptsFinal c d)) u)) reply-is)
 
   call-bytes : bytesOf c x ≡ reply .bytes
   unfolding answerBytes
@@ -153,7 +156,7 @@ module _ (l : Load) (ins : ℕ) (d : List ℕ) (f : Frames ins d) (s : Session) 
 
   call-shape : shapeOf (outcomeOf c x .answer) ≡ cond (eqb ins initialIns) (initialShape (length d)) (finalShape (keyLengthOf c) (c .«reply_size») (length d))
   unfolding run formulas
-  call-shape = ap (λ (y : List Shape). getD y 0 (shapeOf (outcomeOf c x .answer))) (list-formulas (x ∷ []) c (sound-in l s lr)) ∙ rw (taken, ins-is, lc-is)
+  call-shape = ap (λ (y : List Shape). getD y 0 (shapeOf (outcomeOf c x .answer))) (list-formulas (x ∷ []) c (sound-in l s u lr)) ∙ rw (taken, ins-is, lc-is)
 
   call-accepted : accepted c x ≡ cond (eqb ins initialIns) (acceptsInitial c d) (acceptsFinal c d)
   unfolding accepted
@@ -165,17 +168,17 @@ unfolding blockOf padBytes
 block-is l fresh text = ap (λ (y : List ℕ). 0 ∷ 2 ∷ y) (append-assoc (drop (str1Length l) fresh) (0 ∷ []) text)
 
 -- an initial command
-module _ (l : Load) (d : List ℕ) (f : Frames 0x87 d) (s : Session) (fresh : List ℕ) (room : ℕ) (lr : length (s .rnd1) ≡ 32) (t : Lent (l .given .«key_length») fresh room) where
-  initial-shape : shapeOf (outcomeOf (c l 0x87 d f s fresh room lr t) (x l 0x87 d f s fresh room lr t) .answer) ≡ initialShape (length d)
-  initial-shape = call-shape l 0x87 d f s fresh room lr t
+module _ (l : Load) (d : List ℕ) (f : Frames 0x87 d) (s : Session) (u : Tries) (i : ℕ) (fresh : List ℕ) (room : ℕ) (lr : length (s .rnd1) ≡ 32) (t : Lent (l .given .«key_length») i fresh room) where
+  initial-shape : shapeOf (outcomeOf (c l 0x87 d f s u i fresh room lr t) (x l 0x87 d f s u i fresh room lr t) .answer) ≡ initialShape (length d)
+  initial-shape = call-shape l 0x87 d f s u i fresh room lr t
 
   -- for which slot n of KeySetID k is found
-  answered : (k n : ℕ) → slotOf (withSession (cardOf l) s) d ≡ n → Holds (cardOf l .sets) n (idOf k) →
-      Answered l k (8 * (length d / 4)) (withSession (cardOf l) s) (record { command = framed 0x87 d; fresh = fresh; room = room })
-  unfolding reply initialReply str1
+  answered : (k n : ℕ) → slotOf (inState l s u) d ≡ n → Holds (cardOf l .sets) n (idOf k) →
+      Answered l k (8 * (length d / 4)) (inState l s u) (record { interface = i; command = framed 0x87 d; fresh = fresh; room = room })
+  unfolding reply initialReply str1 triesAfter
   answered k n e h =
       let w = h .below in
-      let b : ltb (slotOf (withSession (cardOf l) s) d) 8 ≡ true = lt-ltb (slotOf (withSession (cardOf l) s) d) 8 (omega arith) in
+      let b : ltb (slotOf (inState l s u) d) 8 ≡ true = lt-ltb (slotOf (inState l s u) d) 8 (omega arith) in
       let g = slot-given l n (h .kept) in
       let q = set-slot l n g in
       record {
@@ -184,24 +187,24 @@ module _ (l : Load) (d : List ℕ) (f : Frames 0x87 d) (s : Session) (fresh : Li
         comparisons = ap (λ (y : Shape). y .comparisons) initial-shape;
         place = n;
         gave = record { within = g; id = sym (ap (λ (y : KeySetSlot). y .id .0) q) ∙ ap (λ (y : KeySetId). y .0) (h .id) };
-        handle = call-handle l 0x87 d f s fresh room lr t ∙ rw (b, e) (ap (λ (y : KeySetSlot). y .handle) q);
+        handle = call-handle l 0x87 d f s u i fresh room lr t ∙ rw (b, e) (ap (λ (y : KeySetSlot). y .handle) q);
         card =
-            call-card l 0x87 d f s fresh room lr t
-            ∙ rw (b, e, length-is l) (ap (λ (j : KeySetId). withSession (cardOf l) (openedWith j (part fresh 0 (l .given .«key_length»)))) (h .id));
-        block = call-bytes l 0x87 d f s fresh room lr t ∙ rw (b, e, length-is l, h .id, div-given l) (block-is (l .given .«key_length») fresh (str1 (idOf k) (l .given .«div_data») (part fresh 0 (l .given .«key_length»))));
+            call-card l 0x87 d f s u i fresh room lr t
+            ∙ rw (b, e, length-is l) (ap (λ (j : KeySetId). inState l (openedWith j (part fresh 0 (l .given .«key_length»))) u) (h .id));
+        block = call-bytes l 0x87 d f s u i fresh room lr t ∙ rw (b, e, length-is l, h .id, div-given l) (block-is (l .given .«key_length») fresh (str1 (idOf k) (l .given .«div_data») (part fresh 0 (l .given .«key_length»))));
       }
 
-  refused : acceptsInitial (withSession (cardOf l) s) d ≡ false →
-      Refused l (8 * (length d / 4)) (withSession (cardOf l) s) (record { command = framed 0x87 d; fresh = fresh; room = room })
-  unfolding reply initialReply
+  refused : acceptsInitial (inState l s u) d ≡ false →
+      Refused l (8 * (length d / 4)) (inState l s u) (record { interface = i; command = framed 0x87 d; fresh = fresh; room = room })
+  unfolding reply initialReply triesAfter
   refused e =
       record {
         number = ap (λ (y : Shape). y .number) initial-shape;
         status = ap (λ (y : Shape). y .status) initial-shape;
         comparisons = ap (λ (y : Shape). y .comparisons) initial-shape;
-        handle = call-handle l 0x87 d f s fresh room lr t ∙ rw e (handle-given l);
-        card = call-card l 0x87 d f s fresh room lr t ∙ rw e;
-        block = call-bytes l 0x87 d f s fresh room lr t ∙ rw (e, length-is l) (block-is (l .given .«key_length») fresh (part fresh 0 (str1Length (l .given .«key_length»))));
+        handle = call-handle l 0x87 d f s u i fresh room lr t ∙ rw e (handle-given l);
+        card = call-card l 0x87 d f s u i fresh room lr t ∙ rw e;
+        block = call-bytes l 0x87 d f s u i fresh room lr t ∙ rw (e, length-is l) (block-is (l .given .«key_length») fresh (part fresh 0 (str1Length (l .given .«key_length»))));
       }
 
 -- "set k held": the look for k finds a slot that holds it
@@ -228,11 +231,11 @@ names-slot d k m c h =
     ap (firstPlace (c .sets) (listed d .formed) d (listed d .first)) n
     ∙ rw (m .formed, m .entry, ne-eqb (firstSlot 0 true (idOf k) (c .sets)) 8 (λ z. omega arith))
 
-answers : (d : List ℕ) (k : ℕ) → Names d k → (l : Load) (i : ℕ) → Gave l i k → EachCall l (framed 0x87 d) (Answered l k (8 * (length d / 4)))
-answers d k m l i g s fresh room lr t =
-    let h = holds l i k g in
+answers : (d : List ℕ) (k : ℕ) → Names d k → (l : Load) (j : ℕ) → Gave l j k → EachCall l (framed 0x87 d) (Answered l k (8 * (length d / 4)))
+answers d k m l j g s u i fresh room lr t =
+    let h = holds l j k g in
     let n = m .long in
-    answered l d (frames-any 0x87 d refl (omega arith)) s fresh room lr t k (firstSlot 0 true (idOf k) (cardOf l .sets)) (names-slot d k m (withSession (cardOf l) s) (h .below)) h
+    answered l d (frames-any 0x87 d refl (omega arith)) s u i fresh room lr t k (firstSlot 0 true (idOf k) (cardOf l .sets)) (names-slot d k m (inState l s u) (h .below)) h
 
 -- set 1 held
 one-edge : (d : List ℕ) → Names d 1 → Of (λ l. (i : ℕ) × Gave l i 1) (λ l. EachCall l (framed 0x87 d) (Answered l 1 (8 * (length d / 4))))
@@ -250,7 +253,7 @@ record NamesNone (d : List ℕ) : Type 0 where
 refuses : (d : List ℕ) → NamesNone d → OfAll (λ l. EachCall l (framed 0x87 d) (Refused l (8 * (length d / 4))))
 refuses d m = (
   load-16 .0,
-  λ l s fresh room lr t. refused l d (m .frames) s fresh room lr t (m .slot (withSession (cardOf l) s) (is-a-load l .stocked .sets-long)),
+  λ l s u i fresh room lr t. refused l d (m .frames) s u i fresh room lr t (m .slot (inState l s u) (is-a-load l .stocked .sets-long)),
 )
 
 malformed : (sets : List KeySetSlot) (d : List ℕ) (p n : ℕ) → length sets ≡ 8 → firstPlace sets false d p n ≡ 8
@@ -285,9 +288,9 @@ ff-formed d = rw (no-FF (0x30 ∷ 0xFF ∷ d) refl)
 ff-edge : OfAll (λ l. (d : List ℕ) → EachCall l (framed 0x87 (0x30 ∷ 0xFF ∷ d)) (Refused l (8 * ((length d + 2) / 4))))
 ff-edge = (
   load-16 .0,
-  λ l d s fresh room lr t. let e : length (0x30 ∷ 0xFF ∷ d) ≡ length d + 2 = omega arith in
-      subst (λ (n : ℕ). Refused l (8 * (n / 4)) (withSession (cardOf l) s) (record { command = framed 0x87 (0x30 ∷ 0xFF ∷ d); fresh = fresh; room = room })) e
-      (ill-edge (0x30 ∷ 0xFF ∷ d) (omega arith) (ff-formed d) .1 l s fresh room lr t),
+  λ l d s u i fresh room lr t. let e : length (0x30 ∷ 0xFF ∷ d) ≡ length d + 2 = omega arith in
+      subst (λ (n : ℕ). Refused l (8 * (n / 4)) (inState l s u) (record { interface = i; command = framed 0x87 (0x30 ∷ 0xFF ∷ d); fresh = fresh; room = room })) e
+      (ill-edge (0x30 ∷ 0xFF ∷ d) (omega arith) (ff-formed d) .1 l s u i fresh room lr t),
 )
 
 -- the records of a load by their lengths
@@ -476,9 +479,9 @@ module _ (c : Card) (d : List ℕ) where
 -- a final command on a card with keys of k bytes and B 3: its counts, whatever its verdict
 module _ (k : ℕ) (l : Load) (w : l .given .«key_length» ≡ k) (b : cardOf l .«reply_size» ≡ 3) (d : List ℕ) (h : 0 < length d) where
   final-counts : EachCall l (framed 0x86 d) (FinalCounts (length d / 16) (3 + cond (ltb 16 k) 2 1) (cond (eqb k 32) 2 1))
-  final-counts s fresh room lr t =
-      let e : shapeOf (outcomeOf (withSession (cardOf l) s) (record { command = framed 0x86 d; fresh = fresh; room = room }) .answer) ≡ finalShape k 3 (length d) =
-      call-shape l 0x86 d (frames-any 0x86 d refl h) s fresh room lr t ∙ ap₂ (λ (n m : ℕ). finalShape n m (length d)) (length-is l ∙ w) b in
+  final-counts s u i fresh room lr t =
+      let e : shapeOf (outcomeOf (inState l s u) (record { interface = i; command = framed 0x86 d; fresh = fresh; room = room }) .answer) ≡ finalShape k 3 (length d) =
+      call-shape l 0x86 d (frames-any 0x86 d refl h) s u i fresh room lr t ∙ ap₂ (λ (n m : ℕ). finalShape n m (length d)) (length-is l ∙ w) b in
       record {
         number = ap (λ (y : Shape). y .number) e;
         status = ap (λ (y : Shape). y .status) e;
@@ -492,17 +495,17 @@ module _ (k : ℕ) (l : Load) (w : l .given .«key_length» ≡ k) (b : cardOf l
 
   final-refused : (length d % 16 ≡ 0 → ⊥) → EachCall l (framed 0x86 d) (FinalRefused l (length d / 16) (3 + cond (ltb 16 k) 2 1) (cond (eqb k 32) 2 1))
   unfolding reply finalReply
-  final-refused o s fresh room lr t =
+  final-refused o s u i fresh room lr t =
       let f = frames-any 0x86 d refl h in
-      let r = not-accepted (withSession (cardOf l) s) d (λ z. o (z .whole)) in
+      let r = not-accepted (inState l s u) d (λ z. o (z .whole)) in
       record {
-        counts = final-counts s fresh room lr t;
-        handle = call-handle l 0x86 d f s fresh room lr t;
-        card = call-card l 0x86 d f s fresh room lr t;
-        refused = call-accepted l 0x86 d f s fresh room lr t ∙ r;
+        counts = final-counts s u i fresh room lr t;
+        handle = call-handle l 0x86 d f s u i fresh room lr t;
+        card = call-card l 0x86 d f s u i fresh room lr t ∙ rw r;
+        refused = call-accepted l 0x86 d f s u i fresh room lr t ∙ r;
         reply =
-            call-bytes l 0x86 d f s fresh room lr t
-            ∙ refused-reply (withSession (cardOf l) s) d fresh (stocked-session (cardOf l) s (is-a-load l .stocked)) r (t .fresh-long)
+            call-bytes l 0x86 d f s u i fresh room lr t
+            ∙ refused-reply (inState l s u) d fresh (stocked-state (cardOf l) s u (is-a-load l .stocked)) r (t .fresh-long)
             ∙ ap (λ (n : ℕ). encrypted (aesUnder (keys.held (keyLengthOf (cardOf l)) (cardOf l .«shill_key»))) zeros n (part fresh 0 (16 * n))) b
             ∙ ap (λ (key : List ℕ). encrypted (aesUnder key) zeros 3 (part fresh 0 48)) (shill-held l);
       }
@@ -514,23 +517,23 @@ three-blocks k three = let w = one-record k 16 three (omega arith) (omega arith)
 final-edge : (k lc : ℕ) → keyLength k ≡ true → 0 < lc → (lc % 16 ≡ 0 → ⊥) → Final k lc (lc / 16) (3 + cond (ltb 16 k) 2 1) (cond (eqb k 32) 2 1)
 final-edge k lc three h o = (
   three-blocks k three,
-  λ l b d e s fresh room lr t. rw (ap (λ (n : ℕ). n / 16) e) at (final-refused k l (b .0) (b .1) d (omega arith) (λ z. o (ap (λ (n : ℕ). n % 16) (sym e) ∙ z)) s fresh room lr t),
+  λ l b d e s u i fresh room lr t. rw (ap (λ (n : ℕ). n / 16) e) at (final-refused k l (b .0) (b .1) d (omega arith) (λ z. o (ap (λ (n : ℕ). n % 16) (sym e) ∙ z)) s u i fresh room lr t),
 )
 
 counts-edge : (k lc : ℕ) → keyLength k ≡ true → 0 < lc → Counts k lc (lc / 16) (3 + cond (ltb 16 k) 2 1) (cond (eqb k 32) 2 1)
 counts-edge k lc three h = (
   three-blocks k three,
-  λ l b d e s fresh room lr t. rw (ap (λ (n : ℕ). n / 16) e) at (final-counts k l (b .0) (b .1) d (omega arith) s fresh room lr t),
+  λ l b d e s u i fresh room lr t. rw (ap (λ (n : ℕ). n / 16) e) at (final-counts k l (b .0) (b .1) d (omega arith) s u i fresh room lr t),
 )
 
 -- "the shortest text has 2 + 2L bytes"
 shortest-edge : (k : ℕ) → keyLength k ≡ true → Shortest k (2 + 2 * k)
 shortest-edge k three = (
   (let w = three-blocks k three in (w .0, w .1 .0)),
-  λ l w d s fresh room lr t. let c : Card = withSession (cardOf l) s in
+  λ l w d s u i fresh room lr t. let c : Card = inState l s u in
       let n : keyLengthOf c ≡ k = length-is l ∙ w in
-      let r : (m : ℕ) → unpadded (decipheredText c d) ≡ Text m → accepted c (record { command = framed 0x86 d; fresh = fresh; room = room }) ≡ acceptsFinal c d =
-      λ m u. call-accepted l 0x86 d (frames-any 0x86 d refl (text-data c d m u)) s fresh room lr t in
+      let r : (m : ℕ) → unpadded (decipheredText c d) ≡ Text m → accepted c (record { interface = i; command = framed 0x86 d; fresh = fresh; room = room }) ≡ acceptsFinal c d =
+      λ m q. call-accepted l 0x86 d (frames-any 0x86 d refl (text-data c d m q)) s u i fresh room lr t in
       record {
         fewer = λ m u h. r m u ∙ not-accepted c d (λ z. omega (arith, z .long, seen (decipheredText c d) m u .ends));
         enough =

@@ -1,9 +1,11 @@
 pub mod Load
 pub mod Demand3
+pub mod Tries
 pub mod Session
 pub mod Edges
 pub mod Loaded
 pub mod Demand3Holds
+pub mod TriesHold
 pub mod Kept
 pub mod Reply
 pub mod Sealed

@@ -76,15 +76,15 @@ module _ (l : Load) (xs : List Call) (x : Call) (goes : isDeclined (keyLengthOf 
   d : List ℕ
   d = dataOf (x .command)
 
-  passes : (b : Bool) → eqb (verdictOn (keyLengthOf (left l xs)) (x .command) (x .fresh) (x .room) .status) 0x9000 ≡ b → not b ≡ false → b ≡ true
+  passes : (b : Bool) → eqb (verdictOn (x .interface) (keyLengthOf (left l xs)) (x .command) (x .fresh) (x .room) .status) 0x9000 ≡ b → not b ≡ false → b ≡ true
   passes true e q = refl
   passes false e q = absurd (true≢false q)
 
-  goes-on : eqb (verdictOn (keyLengthOf (left l xs)) (x .command) (x .fresh) (x .room) .status) 0x9000 ≡ true
-  goes-on = passes (eqb (verdictOn (keyLengthOf (left l xs)) (x .command) (x .fresh) (x .room) .status) 0x9000) refl goes
+  goes-on : eqb (verdictOn (x .interface) (keyLengthOf (left l xs)) (x .command) (x .fresh) (x .room) .status) 0x9000 ≡ true
+  goes-on = passes (eqb (verdictOn (x .interface) (keyLengthOf (left l xs)) (x .command) (x .fresh) (x .room) .status) 0x9000) refl goes
 
   fresh-long : length (x .fresh) ≡ 253
-  fresh-long = passed (keyLengthOf (left l xs)) (length (x .command)) (frameOf (x .command)) (x .fresh) (x .room) (eqb-true _ _ goes-on) .fresh-long
+  fresh-long = passed (x .interface) (keyLengthOf (left l xs)) (length (x .command)) (frameOf (x .command)) (x .fresh) (x .room) (eqb-true _ _ goes-on) .fresh-long
 
   bytes-are : bytesOf (left l xs) x ≡ finalReply (left l xs) d (x .fresh) .bytes
   unfolding answerBytes replyTo d

@@ -42,7 +42,7 @@ pub record IsSeals (l : Load) (xs : List Call) (x : Call) : Type 0 where
   pub payload-most : length payload ≤ payloadMost (l .given .«key_length»)
   pub sealed : x .command ≡ sealCommand (l .given .«key_length») (bytesOf (getD (l .sets) set pastSet .«fa_key»)) (l .given .«div_data») (keys.held (l .given .«key_length») (left l xs .session .rnd1)) rnd2 mode payload
 
-module _ (l : Load) (xs : List Call) (x : Call) (bytes : Bytes (x .command)) (final : isInitial x ≡ false) (goes : eqb (verdictOn (keyLengthOf (left l xs)) (x .command) (x .fresh) (x .room) .status) 0x9000 ≡ true)
+module _ (l : Load) (xs : List Call) (x : Call) (bytes : Bytes (x .command)) (final : isInitial x ≡ false) (goes : eqb (verdictOn (x .interface) (keyLengthOf (left l xs)) (x .command) (x .fresh) (x .room) .status) 0x9000 ≡ true)
     (e : acceptsFinal (left l xs) (dataOf (x .command)) ≡ true) where
   kp : Kept l (left l xs)
   kp = kept l xs
@@ -76,8 +76,8 @@ module _ (l : Load) (xs : List Call) (x : Call) (bytes : Bytes (x .command)) (fi
   div-is : left l xs .«div_data» ≡ l .given .«div_data»
   div-is = ap (λ (y : Card). y .«div_data») (kp .same) ∙ div-given l
 
-  past : Passed (keyLengthOf (left l xs)) (length (x .command)) (frameOf (x .command)) (x .fresh) (x .room)
-  past = passed (keyLengthOf (left l xs)) (length (x .command)) (frameOf (x .command)) (x .fresh) (x .room) (eqb-true _ _ goes)
+  past : Passed (x .interface) (keyLengthOf (left l xs)) (length (x .command)) (frameOf (x .command)) (x .fresh) (x .room)
+  past = passed (x .interface) (keyLengthOf (left l xs)) (length (x .command)) (frameOf (x .command)) (x .fresh) (x .room) (eqb-true _ _ goes)
 
   final-by : (s t : Bool) → eqb (insOf (frameOf (x .command))) finalIns ≡ t → s ≡ false → (s || t) ≡ true → t ≡ true
   final-by true t p q r = absurd (true≢false q)
@@ -120,8 +120,8 @@ module _ (l : Load) (xs : List Call) (x : Call) (bytes : Bytes (x .command)) (fi
 -- THE REVERSE: a final command of bytes that is accepted, on the card that any load and any calls left
 pub accepted-is-seals : (l : Load) (xs : List Call) (x : Call) → Bytes (x .command) → isInitial x ≡ false → accepted (left l xs) x ≡ true → IsSeals l xs x
 unfolding accepted
-accepted-is-seals l xs x h f a = by (eqb (verdictOn (keyLengthOf (left l xs)) (x .command) (x .fresh) (x .room) .status) 0x9000) refl a
+accepted-is-seals l xs x h f a = by (eqb (verdictOn (x .interface) (keyLengthOf (left l xs)) (x .command) (x .fresh) (x .room) .status) 0x9000) refl a
   where
-    by : (t : Bool) → eqb (verdictOn (keyLengthOf (left l xs)) (x .command) (x .fresh) (x .room) .status) 0x9000 ≡ t → accepted (left l xs) x ≡ true → IsSeals l xs x
+    by : (t : Bool) → eqb (verdictOn (x .interface) (keyLengthOf (left l xs)) (x .command) (x .fresh) (x .room) .status) 0x9000 ≡ t → accepted (left l xs) x ≡ true → IsSeals l xs x
     by true q z = is-seals l xs x h f q (rw (q, f) at z)
     by false q z = absurd (true≢false (sym (rw q at z)))

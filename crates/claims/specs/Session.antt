@@ -37,7 +37,8 @@ pub record Exchange : Type 0 where
   pub ids : List KeySetId
   pub count : ℕ
   pub listOut : List ℕ
-  -- fresh bytes and output size of the initial command's call
+  -- interface (T-06), fresh bytes and output size of the initial command's call
+  pub interface₁ : ℕ
   pub fresh₁ : List ℕ
   pub room₁ : ℕ
   -- what the reader's platform decrypted
@@ -48,7 +49,8 @@ pub record Exchange : Type 0 where
   pub mode : OpModeId
   pub payload : List ℕ
   pub sealOut : List ℕ
-  -- fresh bytes and output size of the final command's call
+  -- interface, fresh bytes and output size of the final command's call
+  pub interface₂ : ℕ
   pub fresh₂ : List ℕ
   pub room₂ : ℕ
   -- the record length and the work buffer that Accept gets
@@ -69,10 +71,10 @@ module _ (e : Exchange) where
 
   -- the card's answer to it
   abbrev pub outcome₁ : Outcome
-  outcome₁ = outcome card command₁ (e .fresh₁) (e .room₁)
+  outcome₁ = outcome card (e .interface₁) command₁ (e .fresh₁) (e .room₁)
 
   abbrev pub answer₁ : List ℕ
-  answer₁ = answerBytes card command₁ (e .fresh₁) (e .room₁)
+  answer₁ = answerBytes card (e .interface₁) command₁ (e .fresh₁) (e .room₁)
 
   -- Open
   abbrev pub open₁ : Opened
@@ -87,10 +89,10 @@ module _ (e : Exchange) where
 
   -- the card's answer to it: "the card gets no other command in between"
   abbrev pub outcome₂ : Outcome
-  outcome₂ = outcome (outcome₁ .card) command₂ (e .fresh₂) (e .room₂)
+  outcome₂ = outcome (outcome₁ .card) (e .interface₂) command₂ (e .fresh₂) (e .room₂)
 
   abbrev pub answer₂ : List ℕ
-  answer₂ = answerBytes (outcome₁ .card) command₂ (e .fresh₂) (e .room₂)
+  answer₂ = answerBytes (outcome₁ .card) (e .interface₂) command₂ (e .fresh₂) (e .room₂)
 
   -- Accept, and the part of the work buffer that it returns
   abbrev pub accept : Accepted
@@ -99,7 +101,7 @@ module _ (e : Exchange) where
   abbrev pub returned : List ℕ
   returned = recordPart (workAfter (e .keyLength) (seal .«keys_hash») (open₁ .«div_data») (e .recordLength) answer₂ (e .work)) accept
 
-  -- the conditions of the promise, in the words of document 01, T-01 and T-04
+  -- the conditions of the promise, in the words of document 01, T-01, T-04 and T-06
   pub record Conditions : Type 0 where
     -- "the first listed set that the card holds": the entry at `place` names the load's set at `set`, and no entry before it names a set of the load
     pub place : ℕ
@@ -122,7 +124,7 @@ module _ (e : Exchange) where
     pub same-length : e .recordLength ≡ getD (e .load .given .modes) at pastMode .len
     -- "none of 8 to 14, 16, 17 and 19 arises": 11 to 13 in List, 8 to 10 in both calls, 14 in Open, 16 and 17 in Seal, 19 in Accept. T-04: "The session
     -- promise also needs that neither 21 nor 22 arises", in Open, Seal and Accept. That the two ends have one L follows: Seal takes a FAKey of the
-    -- reader's L, and the load one of the card's
+    -- reader's L, and the load one of the card's. T-06: "26 .. in the session promise too", in both calls
     pub list-done : written .number ≡ 0
     pub first-done : outcome₁ .answer .number ≡ 0
     pub open-done : (open₁ .number ≡ 14 → ⊥) × (open₁ .number ≡ 21 → ⊥)

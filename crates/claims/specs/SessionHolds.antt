@@ -171,19 +171,19 @@ module _ (e : Exchange) (k : Conditions e) where
   hash-is = seal-hash (e .keyLength) (e .faKey) (open₁ e .«div_data») (open₁ e .rnd1) (e .rnd2) (e .mode) (e .payload) (e .sealOut) (k .seal-done)
 
   next : Card
-  next = outcome (card e) cmd₁ (e .fresh₁) (e .room₁) .card
+  next = outcome (card e) (e .interface₁) cmd₁ (e .fresh₁) (e .room₁) .card
 
   next-is : outcome₁ e .card ≡ next
   unfolding next
-  next-is = ap (λ (x : List ℕ). outcome (card e) x (e .fresh₁) (e .room₁) .card) sent₁
+  next-is = ap (λ (x : List ℕ). outcome (card e) (e .interface₁) x (e .fresh₁) (e .room₁) .card) sent₁
 
-  answer-is : (answer₂ e) ≡ answerBytes next cmd₂ (e .fresh₂) (e .room₂)
-  answer-is = ap₂ (λ (x : Card) (y : List ℕ). answerBytes x y (e .fresh₂) (e .room₂)) next-is sent₂
+  answer-is : (answer₂ e) ≡ answerBytes next (e .interface₂) cmd₂ (e .fresh₂) (e .room₂)
+  answer-is = ap₂ (λ (x : Card) (y : List ℕ). answerBytes x (e .interface₂) y (e .fresh₂) (e .room₂)) next-is sent₂
 
-  accept-is : (accept e) ≡ acceptedOf (e .keyLength) hash (open₁ e .«div_data») (e .recordLength) (answerBytes next cmd₂ (e .fresh₂) (e .room₂)) (length (e .work))
+  accept-is : (accept e) ≡ acceptedOf (e .keyLength) hash (open₁ e .«div_data») (e .recordLength) (answerBytes next (e .interface₂) cmd₂ (e .fresh₂) (e .room₂)) (length (e .work))
   accept-is = ap₂ (λ (h : Value) (a : List ℕ). acceptedOf (e .keyLength) h (open₁ e .«div_data») (e .recordLength) a (length (e .work))) hash-is answer-is
 
-  conditions : promise.Conditions (e .keyLength) (card e) (e .ids) (e .count) (e .fresh₁) (e .room₁) (e .blocks) (bytesOf (e .faKey)) (bytesOf (e .rnd2)) (e .payload) (e .mode) (e .fresh₂) (e .room₂) (e .recordLength) (e .work)
+  conditions : promise.Conditions (e .keyLength) (card e) (e .ids) (e .count) (e .interface₁) (e .fresh₁) (e .room₁) (e .blocks) (bytesOf (e .faKey)) (bytesOf (e .rnd2)) (e .payload) (e .mode) (e .interface₂) (e .fresh₂) (e .room₂) (e .recordLength) (e .work)
   unfolding ids cmd₁ cmd₂ next hash
   conditions =
       record {
@@ -192,13 +192,13 @@ module _ (e : Exchange) (k : Conditions e) where
         rnd2-long = length-bytes (e .keyLength) (e .rnd2) most (k .rnd2-typed .long) (seen .rnd2-right);
         list-room = length (e .listOut);
         list-made = list-number (e .ids) (e .count) (e .listOut) (k .list-done);
-        first-call = sym (ap (λ (x : List ℕ). outcome (card e) x (e .fresh₁) (e .room₁) .answer .number) sent₁) ∙ k .first-done;
+        first-call = sym (ap (λ (x : List ℕ). outcome (card e) (e .interface₁) x (e .fresh₁) (e .room₁) .answer .number) sent₁) ∙ k .first-done;
         not-14 = k .open-done .0;
-        second-call = sym (ap₂ (λ (x : Card) (y : List ℕ). outcome x y (e .fresh₂) (e .room₂) .answer .number) next-is sent₂) ∙ k .second-done;
+        second-call = sym (ap₂ (λ (x : Card) (y : List ℕ). outcome x (e .interface₂) y (e .fresh₂) (e .room₂) .answer .number) next-is sent₂) ∙ k .second-done;
         not-19 = λ q. k .accept-done .0 (ap (λ (a : Accepted). a .number) accept-is ∙ q);
         some-held = some-held;
         same-key = key-is;
-        decrypted = ap (blockAt (e .blocks)) first-is ∙ k .decrypted ∙ ap (λ (x : List ℕ). answerBytes (card e) x (e .fresh₁) (e .room₁)) sent₁;
+        decrypted = ap (blockAt (e .blocks)) first-is ∙ k .decrypted ∙ ap (λ (x : List ℕ). answerBytes (card e) (e .interface₁) x (e .fresh₁) (e .room₁)) sent₁;
         no-earlier = λ i h. k .none-opens i (omega (arith, first-is));
         mode-held = mode-held;
         same-length = k .same-length ∙ sym (ap (λ (s : ModeSlot). s .len) sealed-slot);
@@ -216,7 +216,7 @@ module _ (e : Exchange) (k : Conditions e) where
   unfolding ids cmd₁ cmd₂ next hash
   numbered =
       accept-is
-      ∙ promise.session-number (e .keyLength) (card e) (e .ids) (e .count) (e .fresh₁) (e .room₁) (e .blocks) (bytesOf (e .faKey)) (bytesOf (e .rnd2)) (e .payload) (e .mode) (e .fresh₂) (e .room₂) (e .recordLength) (e .work) conditions
+      ∙ promise.session-number (e .keyLength) (card e) (e .ids) (e .count) (e .interface₁) (e .fresh₁) (e .room₁) (e .blocks) (bytesOf (e .faKey)) (bytesOf (e .rnd2)) (e .payload) (e .mode) (e .interface₂) (e .fresh₂) (e .room₂) (e .recordLength) (e .work) conditions
 
   promised : Promised e k
   unfolding ids cmd₁ cmd₂ next hash
@@ -227,7 +227,7 @@ module _ (e : Exchange) (k : Conditions e) where
         record-length = ap (λ (a : Accepted). a .length) numbered ∙ ap (λ (s : ModeSlot). s .len) sealed-slot;
         record-returned =
             ap₂ (λ (h : Value) (a : List ℕ). recordPart (workAfter (e .keyLength) h (open₁ e .«div_data») (e .recordLength) a (e .work)) (acceptedOf (e .keyLength) h (open₁ e .«div_data») (e .recordLength) a (length (e .work)))) hash-is answer-is
-            ∙ promise.session-record (e .keyLength) (card e) (e .ids) (e .count) (e .fresh₁) (e .room₁) (e .blocks) (bytesOf (e .faKey)) (bytesOf (e .rnd2)) (e .payload) (e .mode) (e .fresh₂) (e .room₂) (e .recordLength) (e .work) conditions
+            ∙ promise.session-record (e .keyLength) (card e) (e .ids) (e .count) (e .interface₁) (e .fresh₁) (e .room₁) (e .blocks) (bytesOf (e .faKey)) (bytesOf (e .rnd2)) (e .payload) (e .mode) (e .interface₂) (e .fresh₂) (e .room₂) (e .recordLength) (e .work) conditions
             ∙ ap (λ (s : ModeSlot). part (card e .area) (s .start) (s .len)) sealed-slot
             ∙ ap (λ (a : List ℕ). part a (m .start) (m .len)) (ap (λ (x : Card). x .area) (kp .same))
             ∙ record-given (e .load) (k .at) (k .mode-loaded);

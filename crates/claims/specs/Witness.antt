@@ -15,6 +15,8 @@ use Rattle.key_expansion.specs.KeyLength.{keyLength, each-length, length-most}
 use Rattle.plaid_types.specs.Keys.{keyLengthOf, bytesOf, str1Length, lawful, wide, held}
 use Rattle.plaid_types.specs.declared.Value.{Value}
 use Rattle.plaid_types.specs.declared.KeySetId.{KeySetId}
+use Rattle.plaid_types.specs.Tries.{isInterface, noTries}
+use Rattle.plaid_types.specs.declared.Tries.{Tries}
 use Rattle.plaid_types.specs.declared.Card.{Card}
 use Rattle.frame.specs.Frame.{frameOf, whole, statusOf, dataOf}
 use Rattle.frame.specs.Declines.{padBytes, noZero, verdict}
@@ -43,18 +45,18 @@ use Rattle.claims.specs.Found.{seal-hash}
 use Rattle.claims.specs.SessionHolds.{session-promise}
 
 -- a call whose platform lends what it should gets no number, whatever the command
-module _ (c : Card) (cmd fresh : List ℕ) (room : ℕ) (lf : length fresh ≡ 253) (nz : noZero (padBytes (keyLengthOf c) fresh) ≡ true) (h : 256 ≤ room) where
-  verdict-is : verdictOn (keyLengthOf c) cmd fresh room ≡ record { number = 0; status = statusOf (length cmd) (frameOf cmd) }
+module _ (c : Card) (i : ℕ) (cmd fresh : List ℕ) (room : ℕ) (known : isInterface i ≡ true) (lf : length fresh ≡ 253) (nz : noZero (padBytes (keyLengthOf c) fresh) ≡ true) (h : 256 ≤ room) where
+  verdict-is : verdictOn i (keyLengthOf c) cmd fresh room ≡ record { number = 0; status = statusOf (length cmd) (frameOf cmd) }
   unfolding verdict
-  verdict-is = rw (eq-eqb (length fresh) 253 lf, nz, le-ltb room 256 h)
+  verdict-is = rw (known, eq-eqb (length fresh) 253 lf, nz, le-ltb room 256 h)
 
-  by : (t : Bool) → cond t (done c (replyTo c cmd fresh)) (undone c (verdictOn (keyLengthOf c) cmd fresh room)) .answer .number ≡ 0
-  by true = refl
-  by false = rw verdict-is
+  by : (t : Bool) (u : Tries) → cond t (done c u (replyTo c cmd fresh)) (undone c (verdictOn i (keyLengthOf c) cmd fresh room)) .answer .number ≡ 0
+  by true u = refl
+  by false u = rw verdict-is
 
-  pub no-number : outcome c cmd fresh room .answer .number ≡ 0
+  pub no-number : outcome c i cmd fresh room .answer .number ≡ 0
   unfolding outcome
-  no-number = by (eqb (verdictOn (keyLengthOf c) cmd fresh room .status) 0x9000)
+  no-number = by (eqb (verdictOn i (keyLengthOf c) cmd fresh room .status) 0x9000) _
 
 -- and 96 bytes of work buffer are enough for every response
 pub work-enough : (l : ℕ) (hash : Value) (div : List ℕ) (len : ℕ) (response : List ℕ) (room : ℕ) → keyLength l ≡ true → hash .length ≡ l → 96 ≤ room →
@@ -104,7 +106,7 @@ fresh-long = refl
 
 -- 30 04 04 02 00 01, framed: the first set's session, broken off
 unfoldable pub broken-off : Call
-broken-off = record { command = 0 ∷ 0x87 ∷ 0 ∷ 0 ∷ 6 ∷ 0x30 ∷ 4 ∷ 4 ∷ 2 ∷ 0 ∷ 1 ∷ 0 ∷ []; fresh = fresh; room = 256 }
+broken-off = record { interface = 1; command = 0 ∷ 0x87 ∷ 0 ∷ 0 ∷ 6 ∷ 0x30 ∷ 4 ∷ 4 ∷ 2 ∷ 0 ∷ 1 ∷ 0 ∷ []; fresh = fresh; room = 256 }
 
 numbers-small : (i : ℕ) → getD (record { 0 = 8 } ∷ record { 0 = 2 } ∷ replicate 14 noId) i noId .0 < 65536
 numbers-small zero = omega arith
@@ -145,6 +147,7 @@ module _ (k : ℕ) (three : keyLength k ≡ true) (payload : List ℕ) where
         ids = record { 0 = 8 } ∷ record { 0 = 2 } ∷ replicate 14 noId;
         count = 2;
         listOut = replicate 16 0;
+        interface₁ = 0;
         fresh₁ = fresh;
         room₁ = 256;
         blocks = blocks;
@@ -153,6 +156,7 @@ module _ (k : ℕ) (three : keyLength k ≡ true) (payload : List ℕ) where
         mode = record { 0 = m };
         payload = payload;
         sealOut = replicate (lcOf k (length payload) + 6) 0;
+        interface₂ = 1;
         fresh₂ = fresh;
         room₂ = 300;
         recordLength = n;
@@ -167,11 +171,11 @@ module _ (k : ℕ) (three : keyLength k ≡ true) (payload : List ℕ) where
 
 -- the card's answer is a block, and Open hands back an RND1 of L bytes
 first-long : (k : ℕ) (three : keyLength k ≡ true) (p : List ℕ) → length (first k three p) ≡ 256
-unfolding first exchange one-two load-of mode given area set fresh broken-off loadOf loaded refusal modesRefusal loadedCard filled keyLength lawful wide held str1Length listed listNumber listOutput listCommand encoded shortEntries part over cardAfter outcome answerBytes replyTo verdict frameOf statusOf whole dataOf padBytes initialReply slotOf firstPlace fitting lengthAt entryAt head walked ended ber.listed str1 blockOf
+unfolding first exchange one-two load-of mode given area set fresh broken-off loadOf loaded refusal modesRefusal loadedCard filled keyLength lawful wide held str1Length listed listNumber listOutput listCommand encoded shortEntries part over cardAfter outcome answerBytes replyTo verdict isInterface frameOf statusOf whole dataOf padBytes initialReply slotOf firstPlace fitting lengthAt entryAt head walked ended ber.listed str1 blockOf
 first-long k three p = each-length (λ (n : ℕ). (t : keyLength n ≡ true) → length (first n t p) ≡ 256) k three (λ t. refl) (λ t. refl) (λ t. refl) three
 
 rnd1-long : (k : ℕ) (three : keyLength k ≡ true) (p : List ℕ) (m n : ℕ) → open₁ (session k three p m n) .rnd1 .length ≡ k
-unfolding first exchange one-two load-of mode given area set fresh broken-off loadOf loaded refusal modesRefusal loadedCard filled keyLength lawful wide held str1Length listed listNumber listOutput listCommand encoded shortEntries part over cardAfter outcome answerBytes replyTo verdict frameOf statusOf whole dataOf padBytes initialReply slotOf firstPlace fitting lengthAt entryAt head walked ended ber.listed str1 blockOf session opened openNumber opensAs formed agrees
+unfolding first exchange one-two load-of mode given area set fresh broken-off loadOf loaded refusal modesRefusal loadedCard filled keyLength lawful wide held str1Length listed listNumber listOutput listCommand encoded shortEntries part over cardAfter outcome answerBytes replyTo verdict isInterface frameOf statusOf whole dataOf padBytes initialReply slotOf firstPlace fitting lengthAt entryAt head walked ended ber.listed str1 blockOf session opened openNumber opensAs formed agrees
 rnd1-long k three p m n = each-length (λ (l : ℕ). (t : keyLength l ≡ true) → open₁ (session l t p m n) .rnd1 .length ≡ l) k three (λ t. refl) (λ t. refl) (λ t. refl) three
 
 -- for mode m, a length of n and a payload within Seal's limit, whatever they are
@@ -223,7 +227,7 @@ module _ (k : ℕ) (three : keyLength k ≡ true) (p : List ℕ) (bytes : Bytes 
   -- the conditions of the session promise are met, where the load has that mode with such a record
   pub conditions : (at : ℕ) → at < 2 → m < 65536 → getD (one-two k three .given .modes) at pastMode .id ≡ record { 0 = m } →
       n ≡ getD (one-two k three .given .modes) at pastMode .len → Conditions (session k three p m n)
-  unfolding session exchange one-two load-of given set listed listNumber listOutput listCommand encoded shortEntries
+  unfolding session exchange isInterface one-two load-of given set listed listNumber listOutput listCommand encoded shortEntries
   conditions at within small same-mode same-length =
       record {
         place = 1;
@@ -240,10 +244,10 @@ module _ (k : ℕ) (three : keyLength k ≡ true) (p : List ℕ) (bytes : Bytes 
         same-mode = same-mode;
         same-length = same-length;
         list-done = refl;
-        first-done = no-number _ _ fresh 256 fresh-long (fresh-good _) (omega arith);
+        first-done = no-number _ 0 _ fresh 256 refl fresh-long (fresh-good _) (omega arith);
         open-done = open-counted k (e .ids) 2 (e .blocks) three (omega arith) (omega arith) blocks-long;
         seal-done = sealed-so;
-        second-done = no-number _ _ fresh 300 fresh-long (fresh-good _) (omega arith);
+        second-done = no-number _ 1 _ fresh 300 refl fresh-long (fresh-good _) (omega arith);
         accept-done = work-enough k _ _ _ _ 96 three hash-long (omega arith);
         ids-long = refl;
         ids-small = numbers-small;
@@ -278,9 +282,9 @@ same-shill k three =
     }
 
 unfoldable pub other-list : Call
-other-list = record { command = 0 ∷ 0x87 ∷ 0 ∷ 0 ∷ 6 ∷ 0x30 ∷ 4 ∷ 4 ∷ 2 ∷ 0 ∷ 7 ∷ 0 ∷ []; fresh = fresh; room = 256 }
+other-list = record { interface = 1; command = 0 ∷ 0x87 ∷ 0 ∷ 0 ∷ 6 ∷ 0x30 ∷ 4 ∷ 4 ∷ 2 ∷ 0 ∷ 7 ∷ 0 ∷ []; fresh = fresh; room = 256 }
 
-pub both-alike : (k : ℕ) (three : keyLength k ≡ true) → shapes (one-two k three) (broken-off ∷ []) ≡ shapes (three-four k three) (other-list ∷ [])
+pub both-alike : (k : ℕ) (three : keyLength k ≡ true) → shapes (one-two k three) noTries (broken-off ∷ []) ≡ shapes (three-four k three) (record { contact = 3; contactless = 65535 }) (other-list ∷ [])
 unfolding frameOf part broken-off other-list
 both-alike k three =
-    demand-3 (one-two k three) .alike (three-four k three) (same-shill k three) (more (record { frames = refl; lengths = refl; fresh = refl; rooms = refl }) none)
+    demand-3 (one-two k three) .alike (three-four k three) noTries (record { contact = 3; contactless = 65535 }) (same-shill k three) (more (record { interfaces = refl; frames = refl; lengths = refl; fresh = refl; rooms = refl }) none)

@@ -210,8 +210,9 @@ module _ (c : Card) (d fresh : List ℕ) where
           «hash_blocks» = o .«hash_blocks»;
           length = s .length;
           sum = s .sum;
+          accepted = ok;
         })
-        (toldFinal (finalReply c d fresh))
+        (toldFinal (acceptsFinal c d) (finalReply c d fresh))
     final-told qs =
         let key : List ℕ = replyKey c d in
         let b : List ℕ = replyBuffer c d fresh in
@@ -230,7 +231,7 @@ module _ (c : Card) (d fresh : List ℕ) where
         omega (arith, ap (λ (r : Opened). r .«hash_blocks») qo, count-are hashBlock, no-modes hashBlock refl, reply-hash-blocks key (sizeOf c) b) in
         let l : s .length ≡ length (finalReply c d fresh .bytes) = ap (λ (r : Sent). r .length) z ∙ sym (final-length c d fresh) in
         let t : s .sum ≡ workSum (finalReply c d fresh .steps) = ap (λ (r : Sent). r .sum) z ∙ ap (λ (x : ℕ). sumFrom x (replySteps key (sizeOf c) b)) fs ∙ sum-are in
-        λ i. record { comparisons = n₁ i; decipherments = n₂ i; encipherments = n₃ i; expansions = n₄ i; «hash_blocks» = n₅ i; length = l i; sum = t i }
+        λ i. record { comparisons = n₁ i; decipherments = n₂ i; encipherments = n₃ i; expansions = n₄ i; «hash_blocks» = n₅ i; length = l i; sum = t i; accepted = ok-is i }
 
     pub final-bytes : (out out′ : List ℕ) →
         out′ ≡ over out 0 (encrypted (aesUnder (held (keyLengthOf c) (cond ok (o .digest) (c .«shill_key»)))) zeros (sizeOf c) (bufferOf (replyText ok (c .area) mode (c .«div_data») fresh (sizeOf c)))) →

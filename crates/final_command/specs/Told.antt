@@ -1,11 +1,12 @@
--- Document 01, "Counts": what is told of a reply, each from its list of steps or its bytes.
+-- Document 01, "Counts": what is told of a reply, each from its list of steps or its bytes; and, for T-06 of document 02, whether it was accepted.
+use mathlib.Core.Bool.{Bool}
 use lib.ListN.{length}
 use Rattle.work.specs.Steps.{comparison, decipherment, encipherment, expansion, hashBlock, counted, workSum}
 use Rattle.plaid_types.specs.Cards.{Reply}
 use Rattle.final_command.specs.declared.Final.{Final}
 
-abbrev pub toldFinal : Reply → Final
-toldFinal rep =
+abbrev pub toldFinal : Bool → Reply → Final
+toldFinal ok rep =
     record {
       comparisons = counted comparison (rep .steps);
       decipherments = counted decipherment (rep .steps);
@@ -14,4 +15,5 @@ toldFinal rep =
       «hash_blocks» = counted hashBlock (rep .steps);
       length = length (rep .bytes);
       sum = workSum (rep .steps);
+      accepted = ok;
     }

@@ -23,7 +23,7 @@ ghost use Rattle.cbc.specs.Cbc.{encrypted, zeros};
 ghost use Rattle.steps.specs.Made.{setMatched};
 ghost use Rattle.plaid_types.specs.Keys.{keyLengthOf, held};
 ghost use Rattle.plaid_types.specs.Cards.{noMode};
-ghost use Rattle.final_command.specs.Final.{least, keyOf, opMode, modeSteps, firstMode, accepting, recordOf, sizeOf, replyText, finalReply};
+ghost use Rattle.final_command.specs.Final.{least, keyOf, opMode, modeSteps, firstMode, accepting, acceptsFinal, recordOf, sizeOf, replyText, finalReply};
 ghost use Rattle.final_command.specs.Parts.{derived, decipheredUnder, hashing, openedText, sealing, bufferOf, sent};
 ghost use Rattle.final_command.specs.Told.{toldFinal};
 
@@ -370,7 +370,7 @@ fn reply(
     }
 }
 
-// What is told of a final command beside its bytes.
+// What is told of a final command beside its bytes: T-06 asks whether it was accepted.
 pub struct Final {
     pub comparisons: usize,
     pub decipherments: usize,
@@ -379,11 +379,12 @@ pub struct Final {
     pub hash_blocks: usize,
     pub length: usize,
     pub sum: u32,
+    pub accepted: bool,
 }
 
 pub fn run(card: Card, d: &[u8], fresh: &[u8], out: &mut [u8]) -> Final
     requires { ⌜ (length (now d) < 256) × (length (now fresh) ≡ 253) × (256 ≤ length (now out)) ⌝ }
-    ensures told { λ r. ⌜ r ≡ toldFinal (finalReply card (now (d .entry)) (now (fresh .entry))) ⌝ }
+    ensures told { λ r. ⌜ r ≡ toldFinal (acceptsFinal card (now (d .entry))) (finalReply card (now (d .entry)) (now (fresh .entry))) ⌝ }
     ensures bytes { λ r. ⌜ now (out .exit) ≡ over (now (out .entry)) 0 (finalReply card (now (d .entry)) (now (fresh .entry)) .bytes) ⌝ }
 {
     let session = card.session;
@@ -404,5 +405,6 @@ pub fn run(card: Card, d: &[u8], fresh: &[u8], out: &mut [u8]) -> Final
         hash_blocks: o.hash_blocks,
         length: s.length,
         sum: s.sum,
+        accepted: accepted,
     }
 }

@@ -1,10 +1,11 @@
--- Document 01, "When an operation declines", of a command.
+-- Document 01, "When an operation declines", of a command, with T-06 of document 02.
 use mathlib.Core.Bool.{Bool, true, cond, _&&_, not}
 use mathlib.Core.List.{List, [], _∷_}
 use Prim.Native.Nat.{ℕ}
 use lib.Dec.{eqb, ltb}
 use lib.ListN.{length, drop}
 use Rattle.plaid_types.specs.Keys.{str1Length}
+use Rattle.plaid_types.specs.Tries.{isInterface}
 use Rattle.frame.specs.Frame.{statusOf}
 use Rattle.frame.specs.declared.Verdict.{Verdict}
 
@@ -17,14 +18,17 @@ noZero (b ∷ bs) = not (eqb b 0) && noZero bs
 unfoldable pub padBytes : ℕ → List ℕ → List ℕ
 padBytes l fresh = drop (str1Length l) fresh
 
--- "8 fresh bytes not 253; 9 a zero pad byte; 10 output below 256; these three with status .. 0. Then .. by ISO/IEC 7816-4 status":
--- the number and status of a call to a card with keys of l bytes, whose command has n bytes and the frame f. Status 9000 where it is not declined
-unfoldable pub verdict : ℕ → ℕ → List ℕ → List ℕ → ℕ → Verdict
-verdict l n f fresh room =
-    cond (eqb (length fresh) 253)
+-- "8 fresh bytes not 253; 9 a zero pad byte; 10 output below 256; these three with status .. 0. Then .. by ISO/IEC 7816-4 status". T-06: "26 unknown
+-- interface, before 8 and like it". The number and status of a call on interface i to a card with keys of l bytes, whose command has n bytes and the
+-- frame f. Status 9000 where it is not declined
+unfoldable pub verdict : ℕ → ℕ → ℕ → List ℕ → List ℕ → ℕ → Verdict
+verdict i l n f fresh room =
+    cond (isInterface i)
+    (cond (eqb (length fresh) 253)
     (cond (noZero (padBytes l fresh))
     (cond (ltb room 256)
     (record { number = 10; status = 0 })
     (record { number = 0; status = statusOf n f }))
     (record { number = 9; status = 0 }))
-    (record { number = 8; status = 0 })
+    (record { number = 8; status = 0 }))
+    (record { number = 26; status = 0 })

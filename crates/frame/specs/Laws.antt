@@ -11,6 +11,7 @@ use lib.ListN.{length, getD, List·getD-append, drop, length-drop, drop-of-lengt
 use lib.Seq.{getD-append-add}
 use Rattle.octets.specs.Lists.{part, length-part, getD-part}
 use Rattle.plaid_types.specs.Keys.{str1Length}
+use Rattle.plaid_types.specs.Tries.{isInterface}
 use Rattle.frame.specs.Frame.{frameOf, claOf, insOf, p1Of, p2Of, lcOf, leOf, knownIns, whole, statusOf, dataOf}
 use Rattle.frame.specs.Declines.{noZero, padBytes, verdict}
 use Rattle.frame.specs.declared.Verdict.{Verdict}
@@ -112,28 +113,32 @@ faultless n f q =
     faultless-by n f (ltb n 4) (eqb (claOf f) 0) (knownIns (insOf f)) (eqb (p1Of f) 0 && eqb (p2Of f) 0) (whole n f) refl refl refl refl refl q
 
 -- what a call has shown that is not declined
-pub record Passed (l n : ℕ) (f fresh : List ℕ) (room : ℕ) : Type 0 where
+pub record Passed (i l n : ℕ) (f fresh : List ℕ) (room : ℕ) : Type 0 where
+  pub interface-known : isInterface i ≡ true
   pub fresh-long : length fresh ≡ 253
   pub pad-nonzero : noZero (padBytes l fresh) ≡ true
   pub room-enough : 256 ≤ room
   pub status : statusOf n f ≡ 0x9000
   pub frame : Faultless n f
-  pub answer : verdict l n f fresh room ≡ record { number = 0; status = 0x9000 }
+  pub answer : verdict i l n f fresh room ≡ record { number = 0; status = 0x9000 }
 
-passed-by : (l n : ℕ) (f fresh : List ℕ) (room : ℕ) (s t u : Bool) (v : Verdict) →
+passed-by : (i l n : ℕ) (f fresh : List ℕ) (room : ℕ) (r s t u : Bool) (v : Verdict) →
+    isInterface i ≡ r →
     eqb (length fresh) 253 ≡ s →
     noZero (padBytes l fresh) ≡ t →
     ltb room 256 ≡ u →
-    cond s (cond t (cond u (record { number = 10; status = 0 }) (record { number = 0; status = statusOf n f })) (record { number = 9; status = 0 })) (record { number = 8; status = 0 }) ≡ v →
+    cond r (cond s (cond t (cond u (record { number = 10; status = 0 }) (record { number = 0; status = statusOf n f })) (record { number = 9; status = 0 })) (record { number = 8; status = 0 })) (record { number = 26; status = 0 }) ≡ v →
     v .status ≡ 0x9000 →
-    verdict l n f fresh room ≡ v →
-    Passed l n f fresh room
-passed-by l n f fresh room false t u v es et eu e q a = absurd (omega (arith, ap (λ (w : Verdict). w .status) e))
-passed-by l n f fresh room true false u v es et eu e q a = absurd (omega (arith, ap (λ (w : Verdict). w .status) e))
-passed-by l n f fresh room true true true v es et eu e q a = absurd (omega (arith, ap (λ (w : Verdict). w .status) e))
-passed-by l n f fresh room true true false v es et eu e q a =
+    verdict i l n f fresh room ≡ v →
+    Passed i l n f fresh room
+passed-by i l n f fresh room false s t u v er es et eu e q a = absurd (omega (arith, ap (λ (w : Verdict). w .status) e))
+passed-by i l n f fresh room true false t u v er es et eu e q a = absurd (omega (arith, ap (λ (w : Verdict). w .status) e))
+passed-by i l n f fresh room true true false u v er es et eu e q a = absurd (omega (arith, ap (λ (w : Verdict). w .status) e))
+passed-by i l n f fresh room true true true true v er es et eu e q a = absurd (omega (arith, ap (λ (w : Verdict). w .status) e))
+passed-by i l n f fresh room true true true false v er es et eu e q a =
     let z : statusOf n f ≡ 0x9000 = ap (λ (w : Verdict). w .status) e ∙ q in
     record {
+      interface-known = er;
       fresh-long = eqb-true (length fresh) 253 es;
       pad-nonzero = et;
       room-enough = ltb-false room 256 eu;
@@ -142,10 +147,10 @@ passed-by l n f fresh room true true false v es et eu e q a =
       answer = a ∙ sym e ∙ ap (λ (k : ℕ). record { number = 0; status = k }) z;
     }
 
-pub passed : (l n : ℕ) (f fresh : List ℕ) (room : ℕ) → verdict l n f fresh room .status ≡ 0x9000 → Passed l n f fresh room
+pub passed : (i l n : ℕ) (f fresh : List ℕ) (room : ℕ) → verdict i l n f fresh room .status ≡ 0x9000 → Passed i l n f fresh room
 unfolding verdict
-passed l n f fresh room q =
-    passed-by l n f fresh room (eqb (length fresh) 253) (noZero (padBytes l fresh)) (ltb room 256) (verdict l n f fresh room) refl refl refl refl q refl
+passed i l n f fresh room q =
+    passed-by i l n f fresh room (isInterface i) (eqb (length fresh) 253) (noZero (padBytes l fresh)) (ltb room 256) (verdict i l n f fresh room) refl refl refl refl refl q refl
 
 -- the command of a faultless frame: its length, its INS, and its data
 pub command-long : (c : List ℕ) → Faultless (length c) (frameOf c) → 7 ≤ length c

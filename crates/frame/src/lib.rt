@@ -1,6 +1,7 @@
 //! What is checked of a call before its command is run.
 use plaid_types::Answer;
 use plaid_types::Fresh;
+use plaid_types::Interface;
 ghost use mathlib.Core.Path.{_≡_};
 ghost use mathlib.Core.Bool.{_&&_, cond, not};
 ghost use Prim.Native.Nat.{_≤_};
@@ -88,12 +89,20 @@ fn pads_nonzero(l: usize, fresh: &[u8]) -> bool
     no_zero(fresh, plaid_types::str1_length(l))
 }
 
-// The checks of a call to a card whose keys have l bytes.
-pub fn check(l: usize, cmd: &[u8], fresh: &[u8], room: usize) -> Verdict
+// The checks of a call on interface i to a card whose keys have l bytes.
+pub fn check(i: usize, l: usize, cmd: &[u8], fresh: &[u8], room: usize) -> Verdict
     requires { ⌜ l ≤ 32 ⌝ }
-    ensures { λ r. ⌜ r ≡ verdict l (length (now (cmd .entry))) (frameOf (now (cmd .entry))) (now (fresh .entry)) room ⌝ }
+    ensures { λ r. ⌜ r ≡ verdict i l (length (now (cmd .entry))) (frameOf (now (cmd .entry))) (now (fresh .entry)) room ⌝ }
 {
-    if fresh.len() != Fresh::ALL {
+    let known = Interface::is_known(i);
+    let all = fresh.len() == Fresh::ALL;
+    if !known {
+        return Verdict {
+            number: 26,
+            status: 0,
+        };
+    }
+    if !all {
         return Verdict {
             number: 8,
             status: 0,

@@ -13,13 +13,15 @@ use Rattle.octets.specs.Lists.{part}
 use Rattle.key_expansion.specs.KeyLength.{keyLength, length-least, length-most}
 use Rattle.plaid_types.specs.Keys.{keyLengthOf, wide, held, bytesOf, ofLength}
 use Rattle.plaid_types.specs.KeyLaws.{lawful-is, length-wide, held-wide, length-held}
-use Rattle.plaid_types.specs.Cards.{noSet, noMode, noSession, withSession}
+use Rattle.plaid_types.specs.Tries.{noTries}
+use Rattle.plaid_types.specs.Cards.{noSet, noMode, noSession, withSession, withTries}
 use Rattle.plaid_types.specs.declared.Value.{Value}
 use Rattle.plaid_types.specs.declared.KeySet.{KeySet}
 use Rattle.plaid_types.specs.declared.KeySetSlot.{KeySetSlot}
 use Rattle.plaid_types.specs.declared.Mode.{Mode}
 use Rattle.plaid_types.specs.declared.ModeSlot.{ModeSlot}
 use Rattle.plaid_types.specs.declared.Session.{Session}
+use Rattle.plaid_types.specs.declared.Tries.{Tries}
 use Rattle.plaid_types.specs.declared.Card.{Card}
 use Rattle.load.specs.declared.Loaded.{Loaded}
 use Rattle.load.specs.Load.{pastSet, pastMode, some, miscounted, repeated, setIds, modeIds, wrongKeys, withHandle, badRecord, replySize, larger, largestSize}
@@ -334,6 +336,7 @@ pub record Stocked (c : Card) : Type 0 where
 pub record IsLoaded (c : Card) : Type 0 where
   pub stocked : Stocked c
   pub no-session : c .session ≡ noSession
+  pub no-tries : c .tries ≡ noTries
 
 -- L of a card is the length that it keeps
 pub stocked-length : (c : Card) → Stocked c → keyLengthOf c ≡ c .«key_length»
@@ -446,6 +449,7 @@ is-loaded l sets n modes m area div key handle z ls lm ld =
             handle-other = λ i h. handle-by l s t area div key handle i (k .handles-other) (set-given l s t area div key handle i h);
           };
       no-session = refl;
+      no-tries = refl;
     }
 
 -- T-04: what its card holds, at L, are the keys that were given
@@ -464,9 +468,9 @@ module _ (l : ℕ) (sets : List KeySet) (n : ℕ) (modes : List Mode) (m : ℕ) 
       let k = accepted l sets n modes m (length area) key handle z in
       key-kept l key (k .length-one) b (k .key-right)
 
--- another session leaves all but the session
-pub stocked-session : (c : Card) (s : Session) → Stocked c → Stocked (withSession c s)
-stocked-session c s k =
+-- another state leaves all but the session and the failed tries
+pub stocked-state : (c : Card) (s : Session) (t : Tries) → Stocked c → Stocked (withTries (withSession c s) t)
+stocked-state c s t k =
     record {
       sets-long = k .sets-long;
       modes-long = k .modes-long;

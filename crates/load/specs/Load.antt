@@ -7,6 +7,7 @@ use lib.ListN.{length, take, replicate}
 use Rattle.padding.specs.Method2.{blocksFor}
 use Rattle.key_expansion.specs.KeyLength.{keyLength}
 use Rattle.plaid_types.specs.Keys.{wide, bytesOf, noValue, ofLength}
+use Rattle.plaid_types.specs.Tries.{noTries}
 use Rattle.plaid_types.specs.Cards.{noSet, noMode, noSession}
 use Rattle.plaid_types.specs.declared.Value.{Value}
 use Rattle.plaid_types.specs.declared.KeySet.{KeySet}
@@ -102,7 +103,7 @@ modeSlot m = record { held = true; id = m .id; start = m .start; len = m .len }
 
 -- "they and the record area, at most 1,024 bytes, are copied into the card"; "DivData (16 bytes), a shill AES key and a shill RSA handle"; "A new
 -- card has" no session. The area is followed by zeros. T-04: "A card and its reader have one key length L", which it
--- keeps
+-- keeps. T-06: "from 0 on a new card"
 unfoldable pub loadedCard : ℕ → List KeySet → List Mode → List ℕ → List ℕ → Value → ℕ → Card
 loadedCard l sets modes area div key handle =
     record {
@@ -115,6 +116,7 @@ loadedCard l sets modes area div key handle =
       «key_length» = l;
       «reply_size» = largestSize modes;
       session = noSession;
+      tries = noTries;
     }
 
 -- what stands in the place of a card where a load is refused: all slots empty, all numbers 0

@@ -7,6 +7,7 @@ use plaid_types::Mode;
 use plaid_types::ModeSlot;
 use plaid_types::OpModeId;
 use plaid_types::Session;
+use plaid_types::Tries;
 use plaid_types::Value;
 ghost use mathlib.Core.Path.{_≡_};
 ghost use mathlib.Core.Bool.{not, _||_};
@@ -378,6 +379,7 @@ pub fn blank() -> Card
         key_length: 0,
         reply_size: 0,
         session: Session::none(),
+        tries: Tries::none(),
     }
 }
 
@@ -415,6 +417,7 @@ pub fn load(
         key_length: l,
         reply_size: held.size,
         session: Session::none(),
+        tries: Tries::none(),
     };
     Loaded {
         number: 0,

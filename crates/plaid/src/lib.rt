@@ -8,6 +8,7 @@ use plaid_types::Mode;
 use plaid_types::OpModeId;
 use plaid_types::Outcome;
 use plaid_types::Reader;
+use plaid_types::Tries;
 use plaid_types::Value;
 use reader_accept::Accepted;
 use reader_list::Written;
@@ -114,11 +115,25 @@ pub extern "C" fn plaid_load(sets: &[KeySet], given: Given, area: &[u8]) -> Load
 }
 
 #[no_mangle]
-pub extern "C" fn plaid_command(card: Card, command: &[u8], fresh: &[u8], out: &mut [u8]) -> Outcome
-    ensures told { λ r. ⌜ r ≡ outcome card (now (command .entry)) (now (fresh .entry)) (length (now (out .entry))) ⌝ }
-    ensures bytes { λ _. ⌜ now (out .exit) ≡ over (now (out .entry)) 0 (answerBytes card (now (command .entry)) (now (fresh .entry)) (length (now (out .entry)))) ⌝ }
+pub extern "C" fn plaid_command(
+    card: Card,
+    interface: usize,
+    command: &[u8],
+    fresh: &[u8],
+    out: &mut [u8],
+) -> Outcome
+    ensures told { λ r. ⌜ r ≡ outcome card interface (now (command .entry)) (now (fresh .entry)) (length (now (out .entry))) ⌝ }
+    ensures bytes { λ _. ⌜ now (out .exit) ≡ over (now (out .entry)) 0 (answerBytes card interface (now (command .entry)) (now (fresh .entry)) (length (now (out .entry)))) ⌝ }
 {
-    card::command(card, command, fresh, out)
+    card::command(card, interface, command, fresh, out)
+}
+
+// The failed tries of a card (T-06). The card is the caller's, and stays as it is.
+#[no_mangle]
+pub extern "C" fn plaid_read_tries(card: Card) -> Tries
+    ensures { λ r. ⌜ r ≡ card .tries ⌝ }
+{
+    card::read_tries(card)
 }
 
 // The reader's KeySetIDs in order of preference: the first so many.

@@ -1,4 +1,4 @@
--- Document 01, "The card": the session, and what a command that is not declined means.
+-- Document 01, "The card": the state, and what a command that is not declined means; with T-06 of document 02.
 use mathlib.Core.Bool.{false}
 use mathlib.Core.List.{List}
 use Prim.Native.Nat.{ℕ}
@@ -7,6 +7,7 @@ use Rattle.work.specs.Steps.{Step}
 use Rattle.plaid_types.specs.declared.KeySetSlot.{KeySetSlot}
 use Rattle.plaid_types.specs.declared.ModeSlot.{ModeSlot}
 use Rattle.plaid_types.specs.declared.Session.{Session}
+use Rattle.plaid_types.specs.declared.Tries.{Tries}
 use Rattle.plaid_types.specs.declared.Card.{Card}
 
 -- "State: no session, or an open one with KeySetID and RND1. A new card has none."
@@ -20,7 +21,8 @@ noSet = record { held = false; id = record { 0 = 0 }; handle = 0; «fa_key» = r
 abbrev pub noMode : ModeSlot
 noMode = record { held = false; id = record { 0 = 0 }; start = 0; len = 0 }
 
--- "Beside what its load gave, and B, a card keeps only this state": a command changes the session alone
+-- "Beside what its load gave, and B, a card keeps only this state". T-06: "Such new fields .. join document 01's card state": a command changes
+-- the session and the failed tries alone
 abbrev pub withSession : Card → Session → Card
 withSession c s =
     record {
@@ -33,6 +35,22 @@ withSession c s =
       «key_length» = c .«key_length»;
       «reply_size» = c .«reply_size»;
       session = s;
+      tries = c .tries;
+    }
+
+abbrev pub withTries : Card → Tries → Card
+withTries c t =
+    record {
+      sets = c .sets;
+      modes = c .modes;
+      area = c .area;
+      «div_data» = c .«div_data»;
+      «shill_key» = c .«shill_key»;
+      «shill_handle» = c .«shill_handle»;
+      «key_length» = c .«key_length»;
+      «reply_size» = c .«reply_size»;
+      session = c .session;
+      tries = t;
     }
 
 -- what a command that is not declined means: the key handle, the answer bytes, the steps in order, and the session afterwards.

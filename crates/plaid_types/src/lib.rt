@@ -1,9 +1,11 @@
 //! What a card holds, takes and answers (document 01, "The card").
 ghost use mathlib.Core.Path.{_≡_};
+ghost use mathlib.Core.Bool.{cond};
 ghost use Prim.Native.Nat.{_+_, _≤_};
 ghost use lib.ListN.{length};
 ghost use Rattle.plaid_types.specs.Keys.{lawful, wide, valueOf, noValue, str1Length};
-ghost use Rattle.plaid_types.specs.Cards.{noSession, withSession};
+ghost use Rattle.plaid_types.specs.Tries.{isInterface, noTries, oneMore, triesAfter};
+ghost use Rattle.plaid_types.specs.Cards.{noSession, withSession, withTries};
 
 // The two kinds of identifier are types of their own: a key set number is never taken where a mode number belongs.
 #[repr(C)]
@@ -137,6 +139,72 @@ impl Session {
     }
 }
 
+// The interface that a command call names (T-06), as a number.
+pub struct Interface;
+
+impl Interface {
+    pub const CONTACT: usize = 0;
+
+    pub const CONTACTLESS: usize = 1;
+
+    // Any other number is no interface.
+    pub fn is_known(i: usize) -> bool
+        ensures { λ r. ⌜ r ≡ isInterface i ⌝ }
+    {
+        if i == Interface::CONTACT {
+            true
+        } else {
+            i == Interface::CONTACTLESS
+        }
+    }
+}
+
+// The failed tries of a card (T-06): refused final commands, counted for each interface.
+#[repr(C)]
+pub struct Tries {
+    pub contact: u16,
+    pub contactless: u16,
+}
+
+impl Tries {
+    pub const MOST: u16 = 65535;
+
+    // A new card has none.
+    pub fn none() -> Tries
+        ensures { λ r. ⌜ r ≡ noTries ⌝ }
+    {
+        Tries {
+            contact: 0,
+            contactless: 0,
+        }
+    }
+
+    // After a call on interface i, which was a refused final command or was none.
+    pub fn after(self, i: usize, refused: bool) -> Tries
+        ensures { λ r. ⌜ r ≡ triesAfter i refused self ⌝ }
+    {
+        let here = octets::both(refused, i == Interface::CONTACT);
+        let air = octets::both(refused, i == Interface::CONTACTLESS);
+        Tries {
+            contact: counted(here, self.contact),
+            contactless: counted(air, self.contactless),
+        }
+    }
+}
+
+// One more, where there is a try to count. A count holds at the most that it can be.
+fn counted(one: bool, n: u16) -> u16
+    ensures { λ r. ⌜ r ≡ cond one (oneMore n) n ⌝ }
+{
+    if one {
+        if n < Tries::MOST {
+            return n + 1;
+        }
+        return Tries::MOST;
+    }
+    n
+}
+
 #[repr(C)]
 pub struct Card {
     pub sets: [KeySetSlot; Card::KEY_SETS],
@@ -148,6 +216,7 @@ pub struct Card {
     pub key_length: usize,
     pub reply_size: usize,
     pub session: Session,
+    pub tries: Tries,
 }
 
 impl Card {
@@ -162,11 +231,12 @@ impl Card {
     // The largest reply size B.
     pub const REPLY_MOST: usize = 6;
 
-    // The same card with another session.
-    pub fn with_session(mut self, s: Session) -> Card
-        ensures { λ r. ⌜ r ≡ withSession self s ⌝ }
+    // The same card with another state: session and failed tries.
+    pub fn with_state(mut self, s: Session, t: Tries) -> Card
+        ensures { λ r. ⌜ r ≡ withTries (withSession self s) t ⌝ }
     {
         self.session = s;
+        self.tries = t;
         self
     }
 }

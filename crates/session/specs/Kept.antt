@@ -52,16 +52,16 @@ module _ (c : Card) (g : Stocked c) (s : Session) (l : Lawful c s) (x : Call) wh
   accepts-by true e lf = initial-lawful c g (dataOf (x .command)) (x .fresh) lf (split-and (isInitial x) (acceptsInitial c (dataOf (x .command))) e .1)
   accepts-by false e lf = none-lawful c
 
-  next-by : (t : Bool) → eqb (verdictOn (keyLengthOf c) (x .command) (x .fresh) (x .room) .status) 0x9000 ≡ t →
+  next-by : (t : Bool) → eqb (verdictOn (x .interface) (keyLengthOf c) (x .command) (x .fresh) (x .room) .status) 0x9000 ≡ t →
       Lawful c (cond (not t) s (cond (isInitial x && acceptsInitial c (dataOf (x .command))) (initialReply c (dataOf (x .command)) (x .fresh) .session) noSession))
   next-by true e =
       accepts-by (isInitial x && acceptsInitial c (dataOf (x .command))) refl
-      (passed (keyLengthOf c) (length (x .command)) (frameOf (x .command)) (x .fresh) (x .room) (eqb-true _ _ e) .fresh-long)
+      (passed (x .interface) (keyLengthOf c) (length (x .command)) (frameOf (x .command)) (x .fresh) (x .room) (eqb-true _ _ e) .fresh-long)
   next-by false e = l
 
   next-lawful : Lawful c (nextSession c s x)
   unfolding nextSession
-  next-lawful = next-by (eqb (verdictOn (keyLengthOf c) (x .command) (x .fresh) (x .room) .status) 0x9000) refl
+  next-lawful = next-by (eqb (verdictOn (x .interface) (keyLengthOf c) (x .command) (x .fresh) (x .room) .status) 0x9000) refl
 
 -- every list of calls leaves a lawful session
 pub after-lawful : (c : Card) → Stocked c → (s : Session) → Lawful c s → (xs : List Call) → Lawful c (sessionAfter c s xs)

@@ -1,6 +1,6 @@
 -- What the session promise is put together from: a call that is not declined, the block that opens, and the FAKey of a held set. Assumes nothing.
 use mathlib.Core.Path.{_≡_, refl, sym, ap, _∙_}
-use mathlib.Core.Bool.{Bool, true, false, cond, true≢false}
+use mathlib.Core.Bool.{Bool, true, false, cond, _&&_, not, true≢false}
 use mathlib.Core.List.{List, [], _∷_, _++_, append-assoc}
 use Prim.Native.Nat.{ℕ, zero, suc, _+_, _/_, _%_, _<_, _≤_}
 use native.Mathlib.Nat.{not-suc-le-zero, le-of-suc-le-suc}
@@ -11,63 +11,76 @@ use borrow.Author.Tests.{eqb-true, eq-eqb, ltb-true, ltb-false}
 use Rattle.octets.specs.Lists.{part}
 use Rattle.octets.specs.Same.{same-of, split-and}
 use Rattle.steps.specs.Made.{setMatched}
-use Rattle.frame.specs.Frame.{frameOf, statusOf}
+use Rattle.frame.specs.Frame.{frameOf, insOf, initialIns, statusOf, dataOf}
 use Rattle.frame.specs.Declines.{padBytes, noZero, verdict}
 use Rattle.frame.specs.Laws.{length-pads}
 use Rattle.frame.specs.declared.Verdict.{Verdict}
 use Rattle.plaid_types.specs.Keys.{keyLengthOf}
-use Rattle.plaid_types.specs.Cards.{noSet, withSession}
+use Rattle.plaid_types.specs.Tries.{isInterface, triesAfter}
+use Rattle.plaid_types.specs.Cards.{noSet, withSession, withTries}
 use Rattle.plaid_types.specs.declared.KeySetSlot.{KeySetSlot}
 use Rattle.plaid_types.specs.declared.KeySetId.{KeySetId}
+use Rattle.plaid_types.specs.declared.Tries.{Tries}
 use Rattle.plaid_types.specs.declared.Card.{Card}
 use Rattle.plaid_types.specs.declared.Outcome.{Outcome}
 use Rattle.load.specs.Laws.{Stocked, setAt}
 use Rattle.initial.specs.Initial.{str1, blockOf}
 use Rattle.initial.specs.Laws.{length-str1}
-use Rattle.final_command.specs.Final.{keyOf}
-use Rattle.card.specs.Command.{replyTo, done, undone, verdictOn, outcome, answerBytes}
+use Rattle.final_command.specs.Final.{keyOf, acceptsFinal}
+use Rattle.card.specs.Command.{replyTo, refusesFinal, done, undone, verdictOn, outcome, answerBytes}
 use Rattle.reader_open.specs.Open.{textOf, idOf, divOf, rnd1Of, rnd1Copy, agrees, opensAs, winner}
 use Rattle.reader_open.specs.Laws.{opensEntry, Winner, won, lost, Encrypted, form-formed, form-text}
 use Rattle.session_initial.specs.Parts.{part-after, part-last}
 use Rattle.session_initial.specs.Held.{Holds}
 
 -- a call whose frame is right and that gets no number is not declined
-passes-by : (s : ℕ) (a b d : Bool) → s ≡ 0x9000 →
-    cond {A = Verdict} a (cond b (cond d (record { number = 10; status = 0 }) (record { number = 0; status = s })) (record { number = 9; status = 0 })) (record { number = 8; status = 0 }) .number ≡ 0 →
-    cond {A = Verdict} a (cond b (cond d (record { number = 10; status = 0 }) (record { number = 0; status = s })) (record { number = 9; status = 0 })) (record { number = 8; status = 0 }) .status ≡ 0x9000
-passes-by s true true true e z = absurd (omega arith)
-passes-by s true true false e z = e
-passes-by s true false d e z = absurd (omega arith)
-passes-by s false b d e z = absurd (omega arith)
+passes-by : (s : ℕ) (x a b d : Bool) → s ≡ 0x9000 →
+    cond {A = Verdict} x (cond a (cond b (cond d (record { number = 10; status = 0 }) (record { number = 0; status = s })) (record { number = 9; status = 0 })) (record { number = 8; status = 0 })) (record { number = 26; status = 0 }) .number ≡ 0 →
+    cond {A = Verdict} x (cond a (cond b (cond d (record { number = 10; status = 0 }) (record { number = 0; status = s })) (record { number = 9; status = 0 })) (record { number = 8; status = 0 })) (record { number = 26; status = 0 }) .status ≡ 0x9000
+passes-by s true true true true e z = absurd (omega arith)
+passes-by s true true true false e z = e
+passes-by s true true false d e z = absurd (omega arith)
+passes-by s true false b d e z = absurd (omega arith)
+passes-by s false a b d e z = absurd (omega arith)
 
-verdict-passes : (l n : ℕ) (f fresh : List ℕ) (room : ℕ) → statusOf n f ≡ 0x9000 → verdict l n f fresh room .number ≡ 0 → verdict l n f fresh room .status ≡ 0x9000
+verdict-passes : (i l n : ℕ) (f fresh : List ℕ) (room : ℕ) → statusOf n f ≡ 0x9000 → verdict i l n f fresh room .number ≡ 0 → verdict i l n f fresh room .status ≡ 0x9000
 unfolding verdict
-verdict-passes l n f fresh room e z = passes-by (statusOf n f) (eqb (length fresh) 253) (noZero (padBytes l fresh)) (ltb room 256) e z
+verdict-passes i l n f fresh room e z = passes-by (statusOf n f) (isInterface i) (eqb (length fresh) 253) (noZero (padBytes l fresh)) (ltb room 256) e z
 
-module _ (c : Card) (cmd fresh : List ℕ) (room : ℕ) (right : statusOf (length cmd) (frameOf cmd) ≡ 0x9000) where
+module _ (c : Card) (i : ℕ) (cmd fresh : List ℕ) (room : ℕ) (right : statusOf (length cmd) (frameOf cmd) ≡ 0x9000) where
   abbrev l : ℕ
   l = keyLengthOf c
 
-  ok-by : (t : Bool) → eqb (verdictOn l cmd fresh room .status) 0x9000 ≡ t →
-      cond {A = Outcome} t (done c (replyTo c cmd fresh)) (undone c (verdictOn l cmd fresh room)) .answer .number ≡ 0 →
-      eqb (verdictOn l cmd fresh room .status) 0x9000 ≡ true
-  ok-by true e z = e
-  ok-by false e z = eq-eqb (verdictOn l cmd fresh room .status) 0x9000 (verdict-passes l (length cmd) (frameOf cmd) fresh room right z)
+  abbrev tries : Tries
+  tries = triesAfter i (refusesFinal c cmd) (c .tries)
 
-  pub goes-on : outcome c cmd fresh room .answer .number ≡ 0 → eqb (verdictOn l cmd fresh room .status) 0x9000 ≡ true
+  ok-by : (t : Bool) → eqb (verdictOn i l cmd fresh room .status) 0x9000 ≡ t →
+      cond {A = Outcome} t (done c tries (replyTo c cmd fresh)) (undone c (verdictOn i l cmd fresh room)) .answer .number ≡ 0 →
+      eqb (verdictOn i l cmd fresh room .status) 0x9000 ≡ true
+  ok-by true e z = e
+  ok-by false e z = eq-eqb (verdictOn i l cmd fresh room .status) 0x9000 (verdict-passes i l (length cmd) (frameOf cmd) fresh room right z)
+
+  pub goes-on : outcome c i cmd fresh room .answer .number ≡ 0 → eqb (verdictOn i l cmd fresh room .status) 0x9000 ≡ true
   unfolding outcome
-  goes-on z = ok-by (eqb (verdictOn l cmd fresh room .status) 0x9000) refl z
+  goes-on z = ok-by (eqb (verdictOn i l cmd fresh room .status) 0x9000) refl z
 
   -- its answer bytes and its next card are those of the reply
-  pub call-bytes : outcome c cmd fresh room .answer .number ≡ 0 → answerBytes c cmd fresh room ≡ replyTo c cmd fresh .bytes
+  pub call-bytes : outcome c i cmd fresh room .answer .number ≡ 0 → answerBytes c i cmd fresh room ≡ replyTo c cmd fresh .bytes
   unfolding answerBytes
   call-bytes z = ap (λ (t : Bool). cond t (replyTo c cmd fresh .bytes) []) (goes-on z)
 
-  pub call-card : outcome c cmd fresh room .answer .number ≡ 0 → outcome c cmd fresh room .card ≡ withSession c (replyTo c cmd fresh .session)
+  call-card : outcome c i cmd fresh room .answer .number ≡ 0 → outcome c i cmd fresh room .card ≡ withTries (withSession c (replyTo c cmd fresh .session)) tries
   unfolding outcome
   call-card z =
-      ap (λ (t : Bool). cond {A = Outcome} t (done c (replyTo c cmd fresh)) (undone c (verdictOn l cmd fresh room)) .card)
+      ap (λ (t : Bool). cond {A = Outcome} t (done c tries (replyTo c cmd fresh)) (undone c (verdictOn i l cmd fresh room)) .card)
       (goes-on z)
+
+  -- an initial command is not counted
+  pub initial-card : insOf (frameOf cmd) ≡ initialIns → outcome c i cmd fresh room .answer .number ≡ 0 → outcome c i cmd fresh room .card ≡ withSession c (replyTo c cmd fresh .session)
+  unfolding refusesFinal triesAfter
+  initial-card e z =
+      call-card z
+      ∙ ap (λ (t : Bool). withTries (withSession c (replyTo c cmd fresh .session)) (triesAfter i (not t && not (acceptsFinal c (dataOf cmd))) (c .tries))) (eq-eqb (insOf (frameOf cmd)) initialIns e)
 
 -- the parts of STR1 with an RND1 of l bytes, as Open reads them
 module _ (l : ℕ) (k : KeySetId) (div rnd1 : List ℕ) (ld : length div ≡ 16) (lr : length rnd1 ≡ l) where

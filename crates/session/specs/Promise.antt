@@ -27,7 +27,7 @@ use Rattle.plaid_types.specs.declared.KeySetSlot.{KeySetSlot}
 use Rattle.plaid_types.specs.declared.Session.{Session}
 use Rattle.plaid_types.specs.declared.Card.{Card}
 use Rattle.load.specs.Load.{some, repeated}
-use Rattle.load.specs.Laws.{map-take, GoodRecord, Stocked, stocked-length, stocked-session}
+use Rattle.load.specs.Laws.{map-take, GoodRecord, Stocked, stocked-length, stocked-state}
 use Rattle.initial.specs.Initial.{slotOf, str1, blockOf, openedWith, initialReply}
 use Rattle.final_command.specs.Final.{faKeyOf, rnd1Of as sessionRnd1, keyOf, firstMode, finalReply}
 use Rattle.final_command.specs.Laws.{length-body, take-body, body-bytes}
@@ -48,7 +48,7 @@ use Rattle.session_initial.specs.Answered.{Answers, list-answered, list-slot}
 use Rattle.session_final.specs.SealFrame.{seal-status, seal-ins}
 use Rattle.session_final.specs.SealText.{SharedSession}
 use Rattle.session_final.specs.SealReply.{sealedSlot, sealedRecord, sealedBody, sealed-found, length-sealedRecord, seal-reply}
-use Rattle.session.specs.Parts.{goes-on, call-bytes, call-card, block-text, text-div, text-rnd1, block-opens, winner-is, key-held}
+use Rattle.session.specs.Parts.{goes-on, call-bytes, initial-card, block-text, text-div, text-rnd1, block-opens, winner-is, key-held}
 
 -- the reply to an initial and to a final command
 reply-initial : (c : Card) (cmd fresh d : List ℕ) → insOf (frameOf cmd) ≡ initialIns → dataOf cmd ≡ d → replyTo c cmd fresh ≡ initialReply c d fresh
@@ -97,7 +97,7 @@ counted-blocks l ids n blocks k a b f = by (eqb (length blocks) (256 * n)) refl
         absurd (f (simp (k, x, y, e)))
 
 -- a session between a card c and a reader with keys of l bytes
-module _ (l : ℕ) (c : Card) (ids : List KeySetId) (n : ℕ) (fresh₁ : List ℕ) (room₁ : ℕ) (blocks fa r2 payload : List ℕ) (mode : OpModeId) (fresh₂ : List ℕ) (room₂ len : ℕ) (work : List ℕ) where
+module _ (l : ℕ) (c : Card) (ids : List KeySetId) (n i₁ : ℕ) (fresh₁ : List ℕ) (room₁ : ℕ) (blocks fa r2 payload : List ℕ) (mode : OpModeId) (i₂ : ℕ) (fresh₂ : List ℕ) (room₂ len : ℕ) (work : List ℕ) where
   -- the KeySetIDs listed, their numbers in List's command, and the card's answer to it
   abbrev pub entries : List KeySetId
   entries = take n ids
@@ -106,11 +106,11 @@ module _ (l : ℕ) (c : Card) (ids : List KeySetId) (n : ℕ) (fresh₁ : List �
   listed = given ids n
 
   abbrev pub answer₁ : List ℕ
-  answer₁ = answerBytes c (listCommand listed) fresh₁ room₁
+  answer₁ = answerBytes c i₁ (listCommand listed) fresh₁ room₁
 
   -- "the card gets no other command in between": the card that the initial command returned
   abbrev pub card₁ : Card
-  card₁ = outcome c (listCommand listed) fresh₁ room₁ .card
+  card₁ = outcome c i₁ (listCommand listed) fresh₁ room₁ .card
 
   -- the first listed set that the card holds: its place in the list, and its slot
   abbrev pub place : ℕ
@@ -130,7 +130,7 @@ module _ (l : ℕ) (c : Card) (ids : List KeySetId) (n : ℕ) (fresh₁ : List �
   hash = valueOf (keysHashOf l (bytesOf (open₁ .rnd1)) r2)
 
   abbrev pub answer₂ : List ℕ
-  answer₂ = answerBytes card₁ command₂ fresh₂ room₂
+  answer₂ = answerBytes card₁ i₂ command₂ fresh₂ room₂
 
   -- the conditions of the promise
   pub record Conditions : Type 0 where
@@ -142,9 +142,9 @@ module _ (l : ℕ) (c : Card) (ids : List KeySetId) (n : ℕ) (fresh₁ : List �
     -- "none of 8 to 14, 16, 17 and 19 arises" (16 and 17 make no difference to the command)
     pub list-room : ℕ
     pub list-made : listNumber ids n list-room ≡ 0
-    pub first-call : outcome c (listCommand listed) fresh₁ room₁ .answer .number ≡ 0
+    pub first-call : outcome c i₁ (listCommand listed) fresh₁ room₁ .answer .number ≡ 0
     pub not-14 : open₁ .number ≡ 14 → ⊥
-    pub second-call : outcome card₁ command₂ fresh₂ room₂ .answer .number ≡ 0
+    pub second-call : outcome card₁ i₂ command₂ fresh₂ room₂ .answer .number ≡ 0
     pub not-19 : acceptedOf l hash (open₁ .«div_data») len answer₂ (length work) .number ≡ 19 → ⊥
     -- "the first listed set that the card holds has equal FAKey at both ends"
     pub some-held : some (held c) entries ≡ true
@@ -190,14 +190,14 @@ module _ (l : ℕ) (c : Card) (ids : List KeySetId) (n : ℕ) (fresh₁ : List �
     taken : Taken listed (listCommand listed)
     taken = command-taken listed (omega (arith, listed-long, range .0)) (omega (arith, listed-long, range .1)) (k .ids-small)
 
-    ok₁ : eqb (verdictOn (keyLengthOf c) (listCommand listed) fresh₁ room₁ .status) 0x9000 ≡ true
-    ok₁ = goes-on c (listCommand listed) fresh₁ room₁ (taken .status) (k .first-call)
+    ok₁ : eqb (verdictOn i₁ (keyLengthOf c) (listCommand listed) fresh₁ room₁ .status) 0x9000 ≡ true
+    ok₁ = goes-on c i₁ (listCommand listed) fresh₁ room₁ (taken .status) (k .first-call)
 
-    past : Passed l (length (listCommand listed)) (frameOf (listCommand listed)) fresh₁ room₁
+    past : Passed i₁ l (length (listCommand listed)) (frameOf (listCommand listed)) fresh₁ room₁
     past =
-        subst (λ (m : ℕ). Passed m (length (listCommand listed)) (frameOf (listCommand listed)) fresh₁ room₁) length-is
-        (passed (keyLengthOf c) (length (listCommand listed)) (frameOf (listCommand listed)) fresh₁ room₁
-        (eqb-true (verdictOn (keyLengthOf c) (listCommand listed) fresh₁ room₁ .status) 0x9000 ok₁))
+        subst (λ (m : ℕ). Passed i₁ m (length (listCommand listed)) (frameOf (listCommand listed)) fresh₁ room₁) length-is
+        (passed i₁ (keyLengthOf c) (length (listCommand listed)) (frameOf (listCommand listed)) fresh₁ room₁
+        (eqb-true (verdictOn i₁ (keyLengthOf c) (listCommand listed) fresh₁ room₁ .status) 0x9000 ok₁))
 
     entries-long : length entries ≡ n
     entries-long = length-take-le n ids (omega (arith, k .ids-long, range .1))
@@ -229,7 +229,7 @@ module _ (l : ℕ) (c : Card) (ids : List KeySetId) (n : ℕ) (fresh₁ : List �
     block-is : blockAt blocks place ≡ blockOf l fresh₁ (str1 id (c .«div_data») rnd1)
     block-is =
         k .decrypted
-        ∙ call-bytes c (listCommand listed) fresh₁ room₁ (taken .status) (k .first-call)
+        ∙ call-bytes c i₁ (listCommand listed) fresh₁ room₁ (taken .status) (k .first-call)
         ∙ ap (λ (r : Reply). r .bytes) reply₁
         ∙ answers .bytes
 
@@ -278,7 +278,7 @@ module _ (l : ℕ) (c : Card) (ids : List KeySetId) (n : ℕ) (fresh₁ : List �
     card-is : card₁ ≡ withSession c s₁
     unfolding s₁
     card-is =
-        call-card c (listCommand listed) fresh₁ room₁ (taken .status) (k .first-call)
+        initial-card c i₁ (listCommand listed) fresh₁ room₁ (taken .status) (taken .ins) (k .first-call)
         ∙ ap (withSession c) (ap (λ (r : Reply). r .session) reply₁ ∙ answers .session)
 
     key-is : faKeyOf (withSession c s₁) ≡ fa
@@ -331,12 +331,12 @@ module _ (l : ℕ) (c : Card) (ids : List KeySetId) (n : ℕ) (fresh₁ : List �
     answer-is : answer₂ ≡ cardReply (keysHashOf l rnd1 r2) body (c .«div_data»)
     unfolding cmd₂ body
     answer-is =
-        let z : outcome (withSession c s₁) cmd₂ fresh₂ room₂ .answer .number ≡ 0 =
-        sym (ap₂ (λ (e : Card) (x : List ℕ). outcome e x fresh₂ room₂ .answer .number) card-is cmd-is) ∙ k .second-call in
-        ap₂ (λ (e : Card) (x : List ℕ). answerBytes e x fresh₂ room₂) card-is cmd-is
-        ∙ call-bytes (withSession c s₁) cmd₂ fresh₂ room₂ (seal-status l fa (c .«div_data») rnd1 r2 mode payload) z
+        let z : outcome (withSession c s₁) i₂ cmd₂ fresh₂ room₂ .answer .number ≡ 0 =
+        sym (ap₂ (λ (e : Card) (x : List ℕ). outcome e i₂ x fresh₂ room₂ .answer .number) card-is cmd-is) ∙ k .second-call in
+        ap₂ (λ (e : Card) (x : List ℕ). answerBytes e i₂ x fresh₂ room₂) card-is cmd-is
+        ∙ call-bytes (withSession c s₁) i₂ cmd₂ fresh₂ room₂ (seal-status l fa (c .«div_data») rnd1 r2 mode payload) z
         ∙ ap (λ (r : Reply). r .bytes) (reply-final (withSession c s₁) cmd₂ fresh₂ (seal-ins l fa (c .«div_data») rnd1 r2 mode payload))
-        ∙ seal-reply l (withSession c s₁) fa rnd1 r2 mode payload shared (stocked-session c s₁ g) (k .mode-held) fresh₂
+        ∙ seal-reply l (withSession c s₁) fa rnd1 r2 mode payload shared (stocked-state c s₁ (c .tries) g) (k .mode-held) fresh₂
 
     good : GoodRecord (sealedSlot c mode) (c .«reply_size»)
     good = g .good (firstMode 0 mode (c .modes)) (sealed-found c mode g (k .mode-held) .is-held)

@@ -29,7 +29,7 @@ returns c =
     let cmd = a .args .cmd .now in
     let fresh = a .args .fresh .now in
     let room = length (a .args .out .now) in
-    by-decline (a .args .card) cmd fresh (a .args .out .now) _ (k .check .ensures ∙ ap (λ (n : ℕ). verdictOn n cmd fresh room) (k .before .lawful .ensures)) _ (c .before .before .if1 .taken) (c .decline .ensures)
+    by-decline (a .args .card) (a .args .interface) cmd fresh (a .args .out .now) _ (k .check .ensures ∙ ap (λ (n : ℕ). verdictOn (a .args .interface) n cmd fresh room) (k .before .lawful .ensures)) _ (c .before .before .if1 .taken) (c .decline .ensures)
 
 data-of-requires : tie.Need-data-of-requires
 data-of-requires c κs =
@@ -38,7 +38,7 @@ data-of-requires c κs =
     let cmd = a .args .cmd .now in
     let fresh = a .args .fresh .now in
     let room = length (a .args .out .now) in
-    let p = passed (k .before .lawful .result) (length cmd) (frameOf cmd) fresh room (sym (ap (λ (v : Verdict). v .status) (k .check .ensures)) ∙ c .if1 .left) in
+    let p = passed (a .args .interface) (k .before .lawful .result) (length cmd) (frameOf cmd) fresh room (sym (ap (λ (v : Verdict). v .status) (k .check .ensures)) ∙ c .if1 .left) in
     omega (arith, command-long cmd (p .frame))
 
 shared-slice-read-if2 : tie.Need-shared-slice-read-if2
@@ -48,7 +48,7 @@ shared-slice-read-if2 c =
     let cmd = a .args .cmd .now in
     let fresh = a .args .fresh .now in
     let room = length (a .args .out .now) in
-    let p = passed (k .before .lawful .result) (length cmd) (frameOf cmd) fresh room (sym (ap (λ (v : Verdict). v .status) (k .check .ensures)) ∙ c .before .before .if1 .left) in
+    let p = passed (a .args .interface) (k .before .lawful .result) (length cmd) (frameOf cmd) fresh room (sym (ap (λ (v : Verdict). v .status) (k .check .ensures)) ∙ c .before .before .if1 .left) in
     omega (arith, command-long cmd (p .frame))
 
 run-requires : tie.Need-run-requires
@@ -58,7 +58,7 @@ run-requires c κs =
     let cmd = a .args .cmd .now in
     let fresh = a .args .fresh .now in
     let room = length (a .args .out .now) in
-    let p = passed (k .before .lawful .result) (length cmd) (frameOf cmd) fresh room (sym (ap (λ (v : Verdict). v .status) (k .check .ensures)) ∙ c .before .before .before .before .if1 .left) in
+    let p = passed (a .args .interface) (k .before .lawful .result) (length cmd) (frameOf cmd) fresh room (sym (ap (λ (v : Verdict). v .status) (k .check .ensures)) ∙ c .before .before .before .before .if1 .left) in
     let lc : lcOf (frameOf cmd) < 256 = rw (frame-byte cmd 4 (omega arith)) (k .before .before .before .before .shared-slice-known .given 4 .fits) in
     let ld : length (dataOf cmd) < 256 = rw (data-long cmd (p .frame)) lc in
     (rw (c .before .before .before .data-of .ensures) ld, p .fresh-long, p .room-enough)
@@ -77,7 +77,7 @@ returns-2 c =
     let fresh = a .args .fresh .now in
     let room = length (a .args .out .now) in
     let ls : length (a .args .card .sets) ≡ 8 = sym (length-map (a .args .card .sets) _) ∙ a .good .0 .1 .1 .0 .1 .0 .1 in
-    by-initial (a .args .card) cmd fresh (a .args .out .now) _ (k .check .ensures ∙ ap (λ (n : ℕ). verdictOn n cmd fresh room) (k .before .lawful .ensures)) _ _ _ _ (c .before .before .before .before .before .before .before .before .if1 .left) ls (c .before .before .before .before .before .before .before .data-of .ensures) (c .before .before .before .before .before .if2 .taken)
+    by-initial (a .args .card) (a .args .interface) cmd fresh (a .args .out .now) _ (k .check .ensures ∙ ap (λ (n : ℕ). verdictOn (a .args .interface) n cmd fresh room) (k .before .lawful .ensures)) _ _ _ _ (c .before .before .before .before .before .before .before .before .if1 .left) ls (c .before .before .before .before .before .before .before .data-of .ensures) (c .before .before .before .before .before .if2 .taken)
     (c .before .before .before .run .ensures .0) (c .before .before .before .run .ensures .1) (c .after-initial .ensures)
 
 run-requires-2 : tie.Need-run-requires-2
@@ -87,7 +87,7 @@ run-requires-2 c κs =
     let cmd = a .args .cmd .now in
     let fresh = a .args .fresh .now in
     let room = length (a .args .out .now) in
-    let p = passed (k .before .lawful .result) (length cmd) (frameOf cmd) fresh room (sym (ap (λ (v : Verdict). v .status) (k .check .ensures)) ∙ c .before .before .before .before .if1 .left) in
+    let p = passed (a .args .interface) (k .before .lawful .result) (length cmd) (frameOf cmd) fresh room (sym (ap (λ (v : Verdict). v .status) (k .check .ensures)) ∙ c .before .before .before .before .if1 .left) in
     let lc : lcOf (frameOf cmd) < 256 = rw (frame-byte cmd 4 (omega arith)) (k .before .before .before .before .shared-slice-known .given 4 .fits) in
     let ld : length (dataOf cmd) < 256 = rw (data-long cmd (p .frame)) lc in
     (rw (c .before .before .before .data-of .ensures) ld, p .fresh-long, p .room-enough)
@@ -105,7 +105,7 @@ returns-3 c =
     let cmd = a .args .cmd .now in
     let fresh = a .args .fresh .now in
     let room = length (a .args .out .now) in
-    by-final (a .args .card) cmd fresh (a .args .out .now) _ (k .check .ensures ∙ ap (λ (n : ℕ). verdictOn n cmd fresh room) (k .before .lawful .ensures)) _ _ _ _ (c .before .before .before .before .before .before .before .before .if1 .left) (c .before .before .before .before .before .before .before .data-of .ensures) (c .before .before .before .before .before .if2 .left)
+    by-final (a .args .card) (a .args .interface) cmd fresh (a .args .out .now) _ (k .check .ensures ∙ ap (λ (n : ℕ). verdictOn (a .args .interface) n cmd fresh room) (k .before .lawful .ensures)) _ _ _ _ (c .before .before .before .before .before .before .before .before .if1 .left) (c .before .before .before .before .before .before .before .data-of .ensures) (c .before .before .before .before .before .if2 .left)
     (c .before .before .before .run2 .ensures .0) (c .before .before .before .run2 .ensures .1) (c .after-final .ensures)
 
 pub tell-spec : {M : Type 1} → statement M

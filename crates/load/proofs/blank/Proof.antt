@@ -18,12 +18,22 @@ empty-area-requires c κs = search needs
 none-requires : tie.Need-none-requires
 none-requires c κs = search needs
 
+none-requires-2 : tie.Need-none-requires-2
+none-requires-2 c κs = search needs
+
 returns : tie.Need-returns
 unfolding blankCard loadedCard wide held over part
 returns c =
-    simp (c .none .ensures, c .before .empty-area .ensures, c .before .before .empty-modes .ensures, c .before .before .before .empty-sets .ensures)
+    let s = c .before in
+    simp (c .none2 .ensures, s .none .ensures, s .before .empty-area .ensures, s .before .before .empty-modes .ensures, s .before .before .before .empty-sets .ensures)
 
 pub blank-spec : {M : Type 1} → statement M
 blank-spec =
     tie.close
-    (tie.spec empty-sets-requires empty-modes-requires empty-area-requires none-requires returns)
+    (tie.spec
+    empty-sets-requires
+    empty-modes-requires
+    empty-area-requires
+    none-requires
+    none-requires-2
+    returns)

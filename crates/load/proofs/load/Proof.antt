@@ -64,18 +64,23 @@ wide-requires c κs =
 none-requires : tie.Need-none-requires
 none-requires c κs = search needs
 
+none-requires-2 : tie.Need-none-requires-2
+none-requires-2 c κs = search needs
+
 returns-2 : tie.Need-returns-2
 unfolding loadedCard
 returns-2 c =
-    let d = c .before .before .before .before .before .before in
+    let s = c .before in
+    let d = s .before .before .before .before .before .before in
     let a = d .before .before .before .args in
     simp (
-      c .none .ensures,
-      c .before .wide .ensures,
-      c .before .before .copied .ensures,
-      c .before .before .before .set-slots .ensures,
-      c .before .before .before .before .before .mode-slots .ensures .0,
-      c .before .before .before .before .before .mode-slots .ensures .1,
+      c .none2 .ensures,
+      s .none .ensures,
+      s .before .wide .ensures,
+      s .before .before .copied .ensures,
+      s .before .before .before .set-slots .ensures,
+      s .before .before .before .before .before .mode-slots .ensures .0,
+      s .before .before .before .before .before .mode-slots .ensures .1,
     )
     (sym (load-made (a .l) (a .sets) (a .n) (a .modes) (a .m) (a .area .now) (a .div-data) (a .shill-key) (a .shill-handle) (sym (d .before .fault .ensures) ∙ d .if1 .left)))
 
@@ -91,4 +96,5 @@ load-spec =
     copied-requires
     wide-requires
     none-requires
+    none-requires-2
     returns-2)
