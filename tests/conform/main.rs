@@ -1,8 +1,9 @@
 //! Reads lines in the form of the transcripts from standard input, runs each on the proved library, and writes it again with
 //! the result that the library gives. What stands behind `=>` is not looked at.
 //!
-//! A `load` line starts a new card; each `call` line gets the card as the call before left it. The output buffer is filled before a call,
-//! and `kept=no` stands at the line's end where a byte behind the answer changed. `list`, `open`, `seal` and `accept` lines are the reader's.
+//! A `load` line starts a new card; each `call` line gets the card as the call before left it. It names its `interface=` in front, any number;
+//! `tries=` are the counts that are read of the card afterwards, contact and contactless. The output buffer is filled before a call, and
+//! `kept=no` stands at the line's end where a byte behind the answer changed. `list`, `open`, `seal` and `accept` lines are the reader's.
 //! `wiegand_record`, `wiegand_text`, `uuid_record` and `uuid_text` lines convert door numbers; a text is the hexadecimal of its bytes. A line
 //! that cannot be read gets an error with its number, and the run goes on; the exit status is then 1.
 
@@ -173,20 +174,23 @@ fn convert(line: &str, from: &str, to: &str, run: fn(&[u8], &mut [u8]) -> Conver
 }
 
 fn call(line: &str, card: &mut Option<Card>) -> Result<String, String> {
-    let f = fields(line, &["command", "fresh", "out"])?;
+    let f = fields(line, &["interface", "command", "fresh", "out"])?;
+    let interface = number(f["interface"])?;
     let command = bytes(f["command"])?;
     let fresh = bytes(f["fresh"])?;
     let fill = filled(f["out"])?;
     let held = card.ok_or("a call with no loaded card before it")?;
     let mut out = fill.clone();
-    let r = run_command(held, &command, &fresh, &mut out);
+    let r = run_command(held, interface, &command, &fresh, &mut out);
     let a = r.answer;
+    let tries = run_read_tries(r.card);
     *card = Some(r.card);
     let end = a.length.min(out.len());
     let after = r.card.open_session().map_or("-".to_string(), |(id, rnd1)| format!("{id}:{}", hex(rnd1)));
     let mut s = format!(
-        "number={} status={} comparisons={} decipherments={} encipherments={} expansions={} hash_blocks={} length={} handle={} sum={} answer={} session={}",
-        a.number, a.status, a.comparisons, a.decipherments, a.encipherments, a.expansions, a.hash_blocks, a.length, a.handle, r.sum, hex(&out[..end]), after
+        "number={} status={} comparisons={} decipherments={} encipherments={} expansions={} hash_blocks={} length={} handle={} sum={} answer={} session={} tries={}:{}",
+        a.number, a.status, a.comparisons, a.decipherments, a.encipherments, a.expansions, a.hash_blocks, a.length, a.handle, r.sum, hex(&out[..end]), after,
+        tries.contact, tries.contactless
     );
     if out[end..] != fill[end..] {
         s.push_str(" kept=no");

@@ -65,6 +65,14 @@ pub struct Session {
     pub rnd1: [u8; 32],
 }
 
+/// The refused final commands on each interface.
+#[repr(C)]
+#[derive(Clone, Copy, PartialEq)]
+pub struct Tries {
+    pub contact: u16,
+    pub contactless: u16,
+}
+
 #[repr(C)]
 #[derive(Clone, Copy)]
 pub struct Card {
@@ -77,6 +85,7 @@ pub struct Card {
     pub key_length: usize,
     pub reply_size: usize,
     pub session: Session,
+    pub tries: Tries,
 }
 
 impl Card {
@@ -203,7 +212,17 @@ pub struct Converted {
 #[link(name = "plaid", kind = "static")]
 unsafe extern "C" {
     fn plaid_load(sets: *const KeySet, set_count: usize, given: Given, area: *const u8, area_len: usize) -> Loaded;
-    fn plaid_command(card: Card, command: *const u8, command_len: usize, fresh: *const u8, fresh_len: usize, out: *mut u8, out_len: usize) -> Outcome;
+    fn plaid_command(
+        card: Card,
+        interface: usize,
+        command: *const u8,
+        command_len: usize,
+        fresh: *const u8,
+        fresh_len: usize,
+        out: *mut u8,
+        out_len: usize,
+    ) -> Outcome;
+    fn plaid_read_tries(card: Card) -> Tries;
     fn plaid_list(of: Ids, out: *mut u8, out_len: usize) -> Written;
     fn plaid_open(key_length: usize, of: Ids, blocks: *const u8, blocks_len: usize) -> Opened;
     fn plaid_seal(of: Sealing, payload: *const u8, payload_len: usize, out: *mut u8, out_len: usize) -> Sealed;
@@ -229,8 +248,14 @@ pub fn run_load(sets: &[KeySet], modes: &[Mode], area: &[u8], mut given: Given) 
     unsafe { plaid_load(sets.as_ptr(), sets.len(), given, area.as_ptr(), area.len()) }
 }
 
-pub fn run_command(card: Card, command: &[u8], fresh: &[u8], out: &mut [u8]) -> Outcome {
-    unsafe { plaid_command(card, command.as_ptr(), command.len(), fresh.as_ptr(), fresh.len(), out.as_mut_ptr(), out.len()) }
+/// A command by this interface, whatever number it is.
+pub fn run_command(card: Card, interface: usize, command: &[u8], fresh: &[u8], out: &mut [u8]) -> Outcome {
+    let (to, room) = (out.as_mut_ptr(), out.len());
+    unsafe { plaid_command(card, interface, command.as_ptr(), command.len(), fresh.as_ptr(), fresh.len(), to, room) }
+}
+
+pub fn run_read_tries(card: Card) -> Tries {
+    unsafe { plaid_read_tries(card) }
 }
 
 /// Any number of KeySetIDs: the library looks at the count, and at no more than the first sixteen.

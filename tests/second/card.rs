@@ -1,5 +1,5 @@
-//! The card of document 01, with T-01: records of several lengths on one card; T-02: lists with every length of BER but FF; and T-04: keys of
-//! 16, 24 or 32 bytes.
+//! The card of document 01, with T-01: records of several lengths on one card; T-02: lists with every length of BER but FF; T-04: keys of
+//! 16, 24 or 32 bytes; and T-06: refused final commands counted for each interface.
 
 use crate::aes::{self, Block};
 use crate::fault::Fault;
@@ -39,12 +39,14 @@ pub struct Session {
     pub rnd1: Vec<u8>,
 }
 
-/// Beside what its load gave, and B, a card keeps only its session. Slots behind the given sets and modes are empty.
+/// Beside what its load gave, and B, a card keeps only its session and its tries. Slots behind the given sets and modes are empty.
 #[derive(Clone, PartialEq)]
 pub struct Card {
     pub given: Given,
     pub reply_size: usize,
     pub session: Option<Session>,
+    /// The refused final commands on each interface: contact (0), contactless (1).
+    pub tries: [u16; 2],
 }
 
 /// A decline's number, and the part of document 01's sentence that applied.
@@ -113,7 +115,7 @@ pub fn load(given: &Given, fault: Fault) -> Result<Card, Decline> {
     decline_if(given.modes.iter().any(|m| m.len > 64), 6, "a record over 64")?;
     let inside = |m: &Mode| m.start.checked_add(m.len).is_some_and(|end| end <= given.area.len());
     decline_if(!given.modes.iter().all(inside), 6, "a record outside the area")?;
-    Ok(Card { given: given.clone(), reply_size: largest_reply(&given.modes, fault), session: None })
+    Ok(Card { given: given.clone(), reply_size: largest_reply(&given.modes, fault), session: None, tries: [0, 0] })
 }
 
 /// A command call's answer. `why` says for the statistics which rule decided; it is no part of the answer.
@@ -137,15 +139,92 @@ impl Answer {
     }
 }
 
-pub fn command(card: &mut Card, command: &[u8], fresh: &[u8], out: &mut [u8], fault: Fault) -> Answer {
-    if let Err(decline) = lent_fault(card.given.key_length, fresh, out.len(), fault) {
-        return Answer::declined(decline.number, 0, decline.why);
-    }
-    if let Some((status, why)) = frame_fault(command) {
-        return Answer::declined(0, status, why);
+/// A command that comes by this interface.
+pub fn command(card: &mut Card, interface: usize, command: &[u8], fresh: &[u8], out: &mut [u8], fault: Fault) -> Answer {
+    let interface = taken_interface(interface, fault);
+    if let Some(answer) = declined(card, interface, command, fresh, out.len(), fault) {
+        if fault == Fault::DeclinedCounted && command.get(1) == Some(&0x86) {
+            count_try(card, interface, fault);
+        }
+        if fault == Fault::UnknownInterfaceEndsSession && answer.number == 26 {
+            card.session = None;
+        }
+        return answer;
     }
     let data = &command[5..command.len() - 1];
-    if command[1] == 0x87 { initial(card, data, fresh, out, fault) } else { final_command(card, data, fresh, out, fault) }
+    if command[1] == 0x87 {
+        initial(card, interface, data, fresh, out, fault)
+    } else {
+        final_command(card, interface, data, fresh, out, fault)
+    }
+}
+
+/// The counts of both interfaces. The card stays as it is.
+pub fn read_tries(card: &Card) -> [u16; 2] {
+    card.tries
+}
+
+/// The interface as it was named.
+fn taken_interface(named: usize, fault: Fault) -> usize {
+    match fault {
+        Fault::InterfaceModulo256 => named % (1 << 8),
+        Fault::InterfaceModulo2To32 => named % (1 << 32),
+        Fault::OtherIsContactless => named.min(1),
+        _ => named,
+    }
+}
+
+/// The first decline in the order written: 26, then 8, 9 and 10, then a fault of the frame.
+fn declined(card: &Card, interface: usize, command: &[u8], fresh: &[u8], out: usize, fault: Fault) -> Option<Answer> {
+    let lent = lent_fault(card.given.key_length, fresh, out, fault).err();
+    let frame = frame_fault(command);
+    let sooner = match fault {
+        Fault::FreshBeforeInterface => lent.is_some_and(|decline| decline.number == 8),
+        Fault::FrameBeforeInterface => frame.is_some(),
+        _ => false,
+    };
+    if interface > 1 && !sooner {
+        return Some(Answer::declined(26, 0, beside_26(lent, frame.is_some())));
+    }
+    let lent = lent.map(|decline| Answer::declined(decline.number, 0, decline.why));
+    lent.or_else(|| frame.map(|(status, why)| Answer::declined(0, status, why)))
+}
+
+/// What would be declined besides, for the statistics.
+fn beside_26(lent: Option<Decline>, frame: bool) -> &'static str {
+    match (lent.map_or(0, |decline| decline.number), frame) {
+        (8, _) => "unknown interface, and 8",
+        (9, _) => "unknown interface, and 9",
+        (10, _) => "unknown interface, and 10",
+        (_, true) => "unknown interface, and a fault of the frame",
+        _ => "unknown interface alone",
+    }
+}
+
+/// One more refused final command on this interface.
+fn count_try(card: &mut Card, interface: usize, fault: Fault) {
+    let full = card.tries.contains(&u16::MAX);
+    for (of, count) in card.tries.iter_mut().enumerate() {
+        let counted = match fault {
+            Fault::BothCounted => true,
+            Fault::OtherInterfaceCounted => of != interface,
+            Fault::HeldTogether => of == interface && !full,
+            _ => of == interface,
+        };
+        if counted {
+            *count = one_more(*count, fault);
+        }
+    }
+}
+
+/// A count stays at 65,535.
+fn one_more(count: u16, fault: Fault) -> u16 {
+    match fault {
+        Fault::CountWraps => count.wrapping_add(1),
+        Fault::HeldAt65534 => count.saturating_add(1).min(65_534),
+        Fault::HeldAt255 if count == 255 => count,
+        _ => count.saturating_add(1),
+    }
 }
 
 /// Where the pad bytes start among the fresh ones: behind F.
@@ -263,7 +342,7 @@ fn walk(card: &Card, ids: &[u16], places: usize, work: &mut Work, fault: Fault) 
     winner
 }
 
-fn initial(card: &mut Card, data: &[u8], fresh: &[u8], out: &mut [u8], fault: Fault) -> Answer {
+fn initial(card: &mut Card, interface: usize, data: &[u8], fresh: &[u8], out: &mut [u8], fault: Fault) -> Answer {
     let mut work = Work::default();
     let list = listed_ids(data, fault);
     let why = if list.is_none() { "initial refused: malformed" } else { "initial refused: no match" };
@@ -279,6 +358,9 @@ fn initial(card: &mut Card, data: &[u8], fresh: &[u8], out: &mut [u8], fault: Fa
         (handle, why) = (set.handle, accepted_list(data, ids.len()));
         Session { id: set.id, rnd1 }
     });
+    if fault == Fault::InitialCounted && winner.is_none() {
+        count_try(card, interface, fault);
+    }
     let pads = &fresh[pads_from(length, fault)..][..keys::pads(length)];
     let block = [&[0, 2], pads, &[0], &last].concat();
     Answer::given(&block, out, handle, work, why)
@@ -291,7 +373,7 @@ pub fn final_keys(card: &Card) -> (Vec<u8>, Vec<u8>) {
     card.session.as_ref().map_or_else(none, |s| (set(s), s.rnd1.clone()))
 }
 
-fn final_command(card: &mut Card, data: &[u8], fresh: &[u8], out: &mut [u8], fault: Fault) -> Answer {
+fn final_command(card: &mut Card, interface: usize, data: &[u8], fresh: &[u8], out: &mut [u8], fault: Fault) -> Answer {
     let mut work = Work::default();
     let (fa_key, rnd1) = final_keys(card);
     let (length, keys) = (card.given.key_length, work.expand(&fa_key));
@@ -312,11 +394,29 @@ fn final_command(card: &mut Card, data: &[u8], fresh: &[u8], out: &mut [u8], fau
         (why, _) => (card.given.shill_key.clone(), fresh[..16 * card.reply_size].to_vec(), why.unwrap_or_default()),
     };
     let keys = work.expand(&key);
-    let answer = aes::cbc_encipher([0; 16], &plain, |block| work.encipher(&key, &keys, block));
+    let mut answer = aes::cbc_encipher([0; 16], &plain, |block| work.encipher(&key, &keys, block));
+    if fault == Fault::CountInAnswer && refused.is_some() {
+        answer[16 * card.reply_size - 1] ^= card.tries[interface] as u8;
+    }
+    if counts(card, refused.is_some(), fault) {
+        count_try(card, interface, fault);
+    }
+    if fault == Fault::AcceptedClears && refused.is_none() {
+        card.tries = [0, 0];
+    }
     if fault != Fault::OldSessionStays {
         card.session = None;
     }
     Answer::given(&answer, out, 0, work, why)
+}
+
+/// Whether a final command counts, before its session closes: exactly if it is refused.
+fn counts(card: &Card, refused: bool, fault: Fault) -> bool {
+    match fault {
+        Fault::AcceptedCounted => true,
+        Fault::CountedInSessionAlone => refused && card.session.is_some(),
+        _ => refused,
+    }
 }
 
 /// Compares with all sixteen mode slots.

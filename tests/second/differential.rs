@@ -144,7 +144,7 @@ fn shown(name: &str, run: &Run) -> bool {
     again.failed == 0 && (1..=FEW).contains(&again.passed) && transcript.contains("\n# with the fault: ")
 }
 
-/// Each of document 01's traps, T-01's, T-02's, T-04's and T-05's, and a change of each thing compared, has to be found.
+/// Each of document 01's traps, T-01's, T-02's, T-04's, T-05's and T-06's, and a change of each thing compared, has to be found.
 pub fn self_test(calls: usize, seed: u64) -> Tally {
     let mut traps = Tally::default();
     for (fault, trap) in TRAPS {

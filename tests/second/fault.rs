@@ -1,5 +1,5 @@
-//! Document 01's traps for the implementer, and mistakes that T-01, T-02, T-04 and T-05 invite, as switches. Only the self-test turns one on, to see
-//! that the comparison finds it.
+//! Document 01's traps for the implementer, and mistakes that T-01, T-02, T-04, T-05 and T-06 invite, as switches. Only a self-test turns one on, to
+//! see that the comparison finds it.
 
 #[derive(Clone, Copy, PartialEq)]
 pub enum Fault {
@@ -41,10 +41,28 @@ pub enum Fault {
     CapitalsWritten,
     NulBehindText,
     DeclineWrites,
+    BothCounted,
+    OtherInterfaceCounted,
+    InitialCounted,
+    DeclinedCounted,
+    AcceptedCounted,
+    AcceptedClears,
+    CountedInSessionAlone,
+    CountInAnswer,
+    FreshBeforeInterface,
+    FrameBeforeInterface,
+    InterfaceModulo256,
+    InterfaceModulo2To32,
+    OtherIsContactless,
+    UnknownInterfaceEndsSession,
+    CountWraps,
+    HeldAt65534,
+    HeldAt255,
+    HeldTogether,
 }
 
-/// Each fault in words: document 01's traps, then T-01's, T-02's, T-04's and T-05's.
-pub const TRAPS: [(Fault, &str); 37] = [
+/// Each fault that random calls on new cards find, in words: document 01's traps, then T-01's, T-02's, T-04's, T-05's and T-06's.
+pub const TRAPS: [(Fault, &str); 51] = [
     (Fault::FullTextGetsNo80, "leaving out 0x80 when a text fills its blocks"),
     (Fault::WalkEndsAtMatch, "ending the list walk at the first match"),
     (Fault::SlotOrderWins, "taking card slot order over list order"),
@@ -82,4 +100,26 @@ pub const TRAPS: [(Fault, &str); 37] = [
     (Fault::CapitalsWritten, "writing capitals"),
     (Fault::NulBehindText, "writing a zero byte behind a text"),
     (Fault::DeclineWrites, "a declined conversion that writes"),
+    (Fault::BothCounted, "a refused final command that moves both counts"),
+    (Fault::OtherInterfaceCounted, "counting on the other interface"),
+    (Fault::InitialCounted, "counting a refused initial command"),
+    (Fault::DeclinedCounted, "counting a declined final command"),
+    (Fault::AcceptedCounted, "counting an accepted final command"),
+    (Fault::AcceptedClears, "an accepted final command that clears the counts"),
+    (Fault::CountedInSessionAlone, "counting a refused final command only where a session was open"),
+    (Fault::CountInAnswer, "a count in the last byte of a refused answer"),
+    (Fault::FreshBeforeInterface, "giving 8 before 26"),
+    (Fault::FrameBeforeInterface, "giving a frame's status before 26"),
+    (Fault::InterfaceModulo256, "taking an interface modulo 256"),
+    (Fault::InterfaceModulo2To32, "taking an interface modulo 2^32"),
+    (Fault::OtherIsContactless, "taking every interface but 0 for contactless"),
+    (Fault::UnknownInterfaceEndsSession, "an unknown interface that ends the session"),
+];
+
+/// Those that only a card with a high count shows.
+pub const LIMIT_TRAPS: [(Fault, &str); 4] = [
+    (Fault::CountWraps, "a count that goes from 65,535 to 0"),
+    (Fault::HeldAt65534, "a count that stays at 65,534"),
+    (Fault::HeldAt255, "a count that stays at 255"),
+    (Fault::HeldTogether, "a count that stays where the other one is at 65,535"),
 ];

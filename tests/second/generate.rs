@@ -37,15 +37,15 @@ pub fn case(random: &mut Random) -> Case {
 
 /// Runs the command on the generator's own card, so that the next one can be made for the card as it is then.
 fn follow(card: &mut Card, call: &Line) -> Vec<u8> {
-    let Line::Call { command, fresh, out } = call else { return Vec::new() };
+    let Line::Call { interface, command, fresh, out } = call else { return Vec::new() };
     let mut buffer = vec![0; *out];
-    let answer = card::command(card, command, fresh, &mut buffer, Fault::None);
+    let answer = card::command(card, *interface, command, fresh, &mut buffer, Fault::None);
     buffer.truncate(answer.length);
     buffer
 }
 
 /// A load and up to sixteen commands.
-fn card_list(random: &mut Random) -> Vec<Line> {
+pub fn card_list(random: &mut Random) -> Vec<Line> {
     let given = load::good(random);
     let mut lines = vec![Line::Load(given.clone())];
     if let Ok(mut card) = card::load(&given, Fault::None) {
@@ -56,6 +56,14 @@ fn card_list(random: &mut Random) -> Vec<Line> {
         }
     }
     lines
+}
+
+/// Interfaces that no card has. Those from 256 on are 0, 1 or another in fewer bits.
+pub const UNKNOWN_INTERFACES: [usize; 14] = [2, 3, 4, 127, 128, 254, 255, 256, 257, 1 << 16, 1 << 32, (1 << 32) + 1, 1 << 63, usize::MAX];
+
+/// Mostly one of the two.
+fn interface(random: &mut Random) -> usize {
+    if random.percent(93) { random.below(2) } else { random.pick(&UNKNOWN_INTERFACES) }
 }
 
 /// An identifier; small ones and 0 come often, so that sets, modes and empty slots meet.

@@ -9,8 +9,8 @@ use crate::reader::{Accepting, Sealing};
 pub enum Line {
     /// Starts a new card.
     Load(Given),
-    /// A command to the card as the call before left it.
-    Call { command: Vec<u8>, fresh: Vec<u8>, out: usize },
+    /// A command, by an interface, to the card as the call before left it.
+    Call { interface: usize, command: Vec<u8>, fresh: Vec<u8>, out: usize },
     List { ids: Vec<u16>, out: usize },
     Open { key_length: usize, ids: Vec<u16>, blocks: Vec<u8> },
     Seal { of: Sealing, payload: Vec<u8>, out: usize },
@@ -43,7 +43,7 @@ impl Line {
                 let rest = [Size(key_length), Block(div_data), Bytes(shill_key), Handle(shill_handle)];
                 lists.into_iter().chain(rest).collect()
             }
-            Line::Call { command, fresh, out } => vec![Command(command), Fresh(fresh), Size(out)],
+            Line::Call { interface, command, fresh, out } => vec![Size(interface), Command(command), Fresh(fresh), Size(out)],
             Line::List { ids, out } => vec![Ids(ids), Size(out)],
             Line::Open { key_length, ids, blocks } => vec![Ids(ids), Bytes(blocks), Size(key_length)],
             Line::Seal { of: Sealing { key_length, fa_key, div_data, rnd1, rnd2, mode }, payload, out } => {

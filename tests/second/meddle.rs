@@ -2,6 +2,7 @@
 
 use crate::fault::Fault;
 use crate::line::Line;
+use crate::plaid::Tries;
 use crate::side::Reply::{self, *};
 use crate::side::{Second, Side};
 
@@ -23,6 +24,10 @@ impl Side for Meddled {
         let mut reply = self.second.run(line, lent);
         (self.change)(&mut reply, lent);
         reply
+    }
+
+    fn set_tries(&mut self, tries: Tries) {
+        self.second.set_tries(tries);
     }
 }
 
@@ -53,7 +58,7 @@ macro_rules! change {
     };
 }
 
-pub const CHANGES: [(&str, Change); 56] = [
+pub const CHANGES: [(&str, Change); 60] = [
     ("the first byte written", |_, lent| lent.iter_mut().take(1).for_each(Meddle::meddle)),
     ("the last byte lent", |_, lent| lent.iter_mut().rev().take(1).for_each(Meddle::meddle)),
     change!(Load { number, .. } => number),
@@ -78,6 +83,10 @@ pub const CHANGES: [(&str, Change); 56] = [
     change!(Load { card, .. } | Call { card, .. } => card.0.session.id),
     change!(Load { card, .. } | Call { card, .. } => card.0.session.rnd1[15]),
     change!(Load { card, .. } | Call { card, .. } => card.0.session.rnd1[31]),
+    change!(Load { card, .. } | Call { card, .. } => card.0.tries.contact),
+    change!(Load { card, .. } | Call { card, .. } => card.0.tries.contactless),
+    change!(Load { tries, .. } | Call { tries, .. } => tries.contact),
+    change!(Load { tries, .. } | Call { tries, .. } => tries.contactless),
     change!(Call { card, .. } => card.0.session.rnd1[0]),
     change!(Call { card, .. } => card.0.area[0]),
     change!(Call { number, .. } => number),

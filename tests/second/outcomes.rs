@@ -4,12 +4,14 @@ use std::collections::{BTreeMap, BTreeSet};
 
 use crate::door::{Conversion, bad_place};
 use crate::fault::Fault;
+use crate::generate::UNKNOWN_INTERFACES;
 use crate::keys::LENGTHS;
 use crate::line::Line;
+use crate::plaid::Tries;
 use crate::side::Reply;
 
 /// The outcomes that have to come up: for each kind of call and number or status, the rules that decide.
-const REQUIRED: [(&str, &[&str]); 26] = [
+const REQUIRED: [(&str, &[&str]); 35] = [
     ("load 21", UNKNOWN_LENGTH),
     ("open 21", UNKNOWN_LENGTH),
     ("seal 21", UNKNOWN_LENGTH),
@@ -36,10 +38,19 @@ const REQUIRED: [(&str, &[&str]); 26] = [
     ("wiegand_text and back", BACK),
     ("uuid_record and back", BACK),
     ("uuid_text and back", BACK),
+    ("contact, no tries", KEPT),
+    ("contact, tries on one", ONE_TRIED),
+    ("contact, tries on both", BOTH_TRIED),
+    ("contactless, no tries", KEPT),
+    ("contactless, tries on one", ONE_TRIED),
+    ("contactless, tries on both", BOTH_TRIED),
+    ("neither interface, no tries", DECLINED),
+    ("neither interface, tries on one", DECLINED),
+    ("neither interface, tries on both", DECLINED),
 ];
 
 /// Those that have to come up for each L.
-const REQUIRED_FOR_EACH: [(&str, &[&str]); 41] = [
+const REQUIRED_FOR_EACH: [(&str, &[&str]); 43] = [
     ("load 0", LOADED),
     ("load 1", &["no key set", "over 8 key sets"]),
     ("load 22", &["a FAKey not of L bytes", "a FAKey over 32 bytes", "shill key not of L bytes", "shill key over 32 bytes"]),
@@ -48,6 +59,8 @@ const REQUIRED_FOR_EACH: [(&str, &[&str]); 41] = [
     ("load 4", &["no mode", "over 16 modes"]),
     ("load 5", &["repeated OpModeID"]),
     ("load 6", &["area over 1,024", "a record empty", "a record over 64", "a record outside the area"]),
+    ("call 26, no session", UNKNOWN_INTERFACE),
+    ("call 26, session open", UNKNOWN_INTERFACE),
     ("call 8", &["fresh bytes not 253"]),
     ("call 9", &["a zero pad byte"]),
     ("call 10", &["output below 256"]),
@@ -84,6 +97,30 @@ const REQUIRED_FOR_EACH: [(&str, &[&str]); 41] = [
 ];
 
 const UNKNOWN_LENGTH: &[&str] = &["L none of the three"];
+
+/// Of a call by neither interface: alone, and together with each other decline.
+const UNKNOWN_INTERFACE: &[&str] = &[
+    "unknown interface alone",
+    "unknown interface, and 8",
+    "unknown interface, and 9",
+    "unknown interface, and 10",
+    "unknown interface, and a fault of the frame",
+];
+
+/// Of a call by an interface, by the counts afterwards: what has to move that interface's count alone, and what has to keep both.
+const DECLINED: &[&str] = &["final declined", "other declined"];
+const KEPT: &[&str] = &["initial accepted", "initial refused", "final accepted", "final declined", "other declined"];
+const ONE_TRIED: &[&str] =
+    &["initial accepted", "initial refused", "final accepted", "final declined", "other declined", "final refused, its first"];
+const BOTH_TRIED: &[&str] = &[
+    "initial accepted",
+    "initial refused",
+    "final accepted",
+    "final declined",
+    "other declined",
+    "final refused, its first",
+    "final refused, a further one",
+];
 
 /// Of a door number.
 const CONVERTED: &[&str] = &["converted"];
@@ -133,6 +170,8 @@ pub struct Outcomes {
     bodies: BTreeSet<usize>,
     /// The places, counted from 0, of the first bad character of a text, and of the highest bit set above a record's 26.
     places: BTreeSet<(&'static str, usize)>,
+    /// The interfaces that were refused.
+    interfaces: BTreeSet<usize>,
 }
 
 impl Outcomes {
@@ -143,6 +182,14 @@ impl Outcomes {
     pub fn count_reply(&mut self, line: &Line, reply: &Reply, why: &'static str) {
         let length = line.key_length().or(reply.card().map(|card| card.0.key_length));
         self.count(for_length(&kind(reply), length), why);
+        if let (Line::Call { interface, command, .. }, Reply::Call { tries: Tries { contact, contactless }, .. }) = (line, reply) {
+            let tries = [*contact, *contactless];
+            let declined = if command.get(1) == Some(&0x86) { "final declined" } else { "other declined" };
+            self.count(by_interface(*interface, tries), tried(why, tries.get(*interface) == Some(&1)).unwrap_or(declined));
+        }
+        if let (Line::Call { interface, .. }, Reply::Call { number: 26, .. }) = (line, reply) {
+            self.interfaces.insert(*interface);
+        }
         if let (Reply::Accept { length, .. }, ALONE) = (reply, why) {
             self.bodies.insert(*length);
         }
@@ -171,8 +218,23 @@ impl Outcomes {
         let lengths = (1..=64).filter(|length| !self.bodies.contains(length)).map(|length| format!("accept 0: a body of {length}"));
         let places = PLACES.iter().flat_map(|(of, count)| (0..*count).map(|place| (of.name(), place)));
         let places = places.filter(|at| !self.places.contains(at)).map(|(name, place)| format!("{name}: refused at place {place}"));
-        missing.chain(lengths).chain(places).collect()
+        let unknown = UNKNOWN_INTERFACES.iter().filter(|interface| !self.interfaces.contains(interface));
+        missing.chain(lengths).chain(places).chain(unknown.map(|interface| format!("call 26: interface {interface}"))).collect()
     }
+}
+
+/// A call's interface, and on how many interfaces there have been tries.
+fn by_interface(interface: usize, tries: [u16; 2]) -> String {
+    let name = ["contact", "contactless"].get(interface).unwrap_or(&"neither interface");
+    let on = ["no tries", "tries on one", "tries on both"][tries.iter().filter(|count| **count > 0).count()];
+    format!("{name}, {on}")
+}
+
+/// What a command that was not declined does to the counts.
+fn tried(why: &str, first: bool) -> Option<&'static str> {
+    let kinds = ["initial accepted", "initial refused", "final accepted"];
+    let refused = if first { "final refused, its first" } else { "final refused, a further one" };
+    if why.starts_with("final refused") { Some(refused) } else { kinds.into_iter().find(|kind| why.starts_with(kind)) }
 }
 
 /// A bad character has to come up at each place of a text, and each bit above a record's 26.
@@ -194,6 +256,7 @@ fn kind(reply: &Reply) -> String {
         Reply::Load { number, .. } => format!("load {number}"),
         Reply::Call { number: 0, status, length: 0, .. } => format!("call {status:04x}"),
         Reply::Call { number: 0, status, length, .. } => format!("call {status:04x}, {length} bytes"),
+        Reply::Call { number: 26, card, .. } => format!("call 26, {}", if card.0.session.opened { "session open" } else { "no session" }),
         Reply::Call { number, .. } => format!("call {number}"),
         Reply::List { number, .. } => format!("list {number}"),
         Reply::Open { number, .. } => format!("open {number}"),

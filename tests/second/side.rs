@@ -7,7 +7,7 @@ use crate::card::{self, Card, Decline, Given, Mode, Session};
 use crate::door::{self, Conversion};
 use crate::fault::Fault;
 use crate::line::Line;
-use crate::plaid::{self, Value};
+use crate::plaid::{self, Tries, Value};
 use crate::reader::{self, Accepting, Sealing};
 use crate::work::Work;
 
@@ -15,11 +15,11 @@ use crate::work::Work;
 #[derive(Clone)]
 pub struct Image(pub plaid::Card);
 
-/// What a call hands back, every field of it.
+/// What a call hands back, every field of it. `tries` is what the personaliser reads of the card afterwards.
 #[derive(Clone, PartialEq)]
 pub enum Reply {
-    Load { number: u8, card: Image, lists_kept: bool },
-    Call { number: u8, status: u16, work: Work, length: usize, handle: u8, card: Image },
+    Load { number: u8, card: Image, lists_kept: bool, tries: Tries },
+    Call { number: u8, status: u16, work: Work, length: usize, handle: u8, card: Image, tries: Tries },
     List { number: u8, length: usize },
     Open { number: u8, place: usize, id: u16, div_data: Block, rnd1: Value },
     Seal { number: u8, length: usize, keys_hash: Value },
@@ -41,6 +41,8 @@ impl Reply {
 pub trait Side {
     /// Runs one line with this buffer lent for writing.
     fn run(&mut self, line: &Line, lent: &mut [u8]) -> Reply;
+    /// Makes these the counts of the card, as many refused final commands would.
+    fn set_tries(&mut self, tries: Tries);
 }
 
 impl PartialEq for Image {
@@ -55,6 +57,7 @@ impl PartialEq for Image {
             && a.area == b.area
             && rest(a) == rest(b)
             && session(&a.session) == session(&b.session)
+            && a.tries == b.tries
     }
 }
 
@@ -71,7 +74,12 @@ const BLANK: plaid::Card = plaid::Card {
     key_length: 0,
     reply_size: 0,
     session: NO_SESSION,
+    tries: Tries { contact: 0, contactless: 0 },
 };
+
+fn tries([contact, contactless]: [u16; 2]) -> Tries {
+    Tries { contact, contactless }
+}
 
 /// Zeros stand behind a key or RND1 that is shorter than its place in the card.
 fn image(card: &Card) -> Image {
@@ -89,6 +97,7 @@ fn image(card: &Card) -> Image {
     (to.key_length, to.reply_size) = (*key_length, card.reply_size);
     let open = |s: &Session| plaid::Session { opened: true, id: s.id, rnd1: in_card(&s.rnd1) };
     to.session = card.session.as_ref().map_or(NO_SESSION, open);
+    to.tries = tries(card.tries);
     Image(to)
 }
 
@@ -135,15 +144,16 @@ impl Second {
         let (number, card) = self.decided(card::load(given, self.fault), "");
         self.card = card;
         self.why = self.card.as_ref().map_or(self.why, largest);
-        Reply::Load { number, card: self.card.as_ref().map_or(Image(BLANK), image), lists_kept: true }
+        let read = self.card.as_ref().map_or([0, 0], card::read_tries);
+        Reply::Load { number, card: self.card.as_ref().map_or(Image(BLANK), image), lists_kept: true, tries: tries(read) }
     }
 
-    fn command(&mut self, command: &[u8], fresh: &[u8], lent: &mut [u8]) -> Reply {
+    fn command(&mut self, interface: usize, command: &[u8], fresh: &[u8], lent: &mut [u8]) -> Reply {
         let Some(card) = &mut self.card else { return Reply::NoCard };
-        let answer = card::command(card, command, fresh, lent, self.fault);
+        let answer = card::command(card, interface, command, fresh, lent, self.fault);
         let card::Answer { number, status, work, length, handle, why } = answer;
         self.why = why;
-        Reply::Call { number, status, work, length, handle, card: image(card) }
+        Reply::Call { number, status, work, length, handle, card: image(card), tries: tries(card::read_tries(card)) }
     }
 
     fn open(&mut self, key_length: usize, ids: &[u16], blocks: &[u8]) -> Reply {
@@ -177,7 +187,7 @@ impl Side for Second {
     fn run(&mut self, line: &Line, lent: &mut [u8]) -> Reply {
         match line {
             Line::Load(given) => self.load(given),
-            Line::Call { command, fresh, .. } => self.command(command, fresh, lent),
+            Line::Call { interface, command, fresh, .. } => self.command(*interface, command, fresh, lent),
             Line::List { ids, .. } => {
                 let (number, length) = self.decided(reader::list(ids, lent), "listed");
                 Reply::List { number, length: length.unwrap_or(0) }
@@ -186,6 +196,12 @@ impl Side for Second {
             Line::Seal { of, payload, .. } => self.seal(of, payload, lent),
             Line::Accept { of, response, .. } => self.accept(of, response, lent),
             Line::Door { of, given, .. } => self.door(*of, given, lent),
+        }
+    }
+
+    fn set_tries(&mut self, tries: Tries) {
+        if let Some(card) = &mut self.card {
+            card.tries = [tries.contact, tries.contactless];
         }
     }
 }
@@ -214,17 +230,17 @@ impl Library {
         let plaid::Loaded { number, card } = plaid::run_load(&sets, &modes, area, given);
         self.card = if number == 0 { Some(card) } else { None };
         let lists_kept = *std::hint::black_box(&(sets, modes)) == before;
-        Reply::Load { number, card: Image(card), lists_kept }
+        Reply::Load { number, card: Image(card), lists_kept, tries: plaid::run_read_tries(card) }
     }
 
-    fn command(&mut self, command: &[u8], fresh: &[u8], lent: &mut [u8]) -> Reply {
+    fn command(&mut self, interface: usize, command: &[u8], fresh: &[u8], lent: &mut [u8]) -> Reply {
         let Some(held) = self.card else { return Reply::NoCard };
-        let plaid::Outcome { answer, sum, card } = plaid::run_command(held, command, fresh, lent);
+        let plaid::Outcome { answer, sum, card } = plaid::run_command(held, interface, command, fresh, lent);
         self.card = Some(card);
         let plaid::Answer { comparisons, decipherments, encipherments, expansions, hash_blocks, .. } = answer;
         let work = Work { comparisons, decipherments, encipherments, expansions, hash_blocks, sum };
         let plaid::Answer { number, status, length, handle, .. } = answer;
-        Reply::Call { number, status, work, length, handle, card: Image(card) }
+        Reply::Call { number, status, work, length, handle, card: Image(card), tries: plaid::run_read_tries(card) }
     }
 
     fn seal(of: &Sealing, payload: &[u8], lent: &mut [u8]) -> Reply {
@@ -259,7 +275,7 @@ impl Side for Library {
     fn run(&mut self, line: &Line, lent: &mut [u8]) -> Reply {
         match line {
             Line::Load(given) => self.load(given),
-            Line::Call { command, fresh, .. } => self.command(command, fresh, lent),
+            Line::Call { interface, command, fresh, .. } => self.command(*interface, command, fresh, lent),
             Line::List { ids, .. } => {
                 let plaid::Written { number, length } = plaid::run_list(ids, lent);
                 Reply::List { number, length }
@@ -271,6 +287,12 @@ impl Side for Library {
             Line::Seal { of, payload, .. } => Library::seal(of, payload, lent),
             Line::Accept { of, response, .. } => Library::accept(of, response, lent),
             Line::Door { of, given, .. } => Library::door(*of, given, lent),
+        }
+    }
+
+    fn set_tries(&mut self, tries: Tries) {
+        if let Some(card) = &mut self.card {
+            card.tries = tries;
         }
     }
 }

@@ -51,7 +51,9 @@ pub fn question(line: &Line) -> String {
             let given = format!("load l={key_length} sets={sets} modes={modes} area={area} div={div}");
             words(&given, &[("shill_key", &key), ("shill_handle", shill_handle)])
         }
-        Line::Call { command, fresh, out } => words("call", &[("command", &hex(command)), ("fresh", &hex(fresh)), ("out", out)]),
+        Line::Call { interface, command, fresh, out } => {
+            words("call", &[("interface", interface), ("command", &hex(command)), ("fresh", &hex(fresh)), ("out", out)])
+        }
         Line::List { ids, out } => words("list", &[("ids", &joined(ids, u16::to_string)), ("out", out)]),
         Line::Open { key_length, ids, blocks } => {
             words("open", &[("l", key_length), ("ids", &joined(ids, u16::to_string)), ("blocks", &hex(blocks))])
@@ -75,12 +77,13 @@ pub fn result(seen: &Seen) -> String {
     let shown = |length: usize| hex(&seen.lent()[..length.min(seen.lent().len())]);
     match &seen.reply {
         Reply::Load { number, card, .. } => format!("number={number} reply_size={}", card.0.reply_size),
-        Reply::Call { number, status, work, length, handle, card } => {
+        Reply::Call { number, status, work, length, handle, card, tries } => {
             let start = words("", &[("number", number), ("status", status), ("comparisons", &work.comparisons)]);
             let counts = words(&start, &[("decipherments", &work.decipherments), ("encipherments", &work.encipherments)]);
             let counts = words(&counts, &[("expansions", &work.expansions), ("hash_blocks", &work.hash_blocks)]);
             let rest = words(&counts, &[("length", length), ("handle", handle), ("sum", &work.sum)]);
-            words(&rest, &[("answer", &shown(*length)), ("session", &session(&card.0))]).trim_start().to_string()
+            let tries = format!("{}:{}", tries.contact, tries.contactless);
+            words(&rest, &[("answer", &shown(*length)), ("session", &session(&card.0)), ("tries", &tries)]).trim_start().to_string()
         }
         Reply::List { number, length } => format!("number={number} length={length} command={}", shown(*length)),
         Reply::Open { number: 0, place, id, div_data, rnd1 } => {
@@ -165,8 +168,9 @@ pub fn parse(line: &str) -> Option<Line> {
     match line.split(' ').next()? {
         "load" => parse_load(line),
         "call" => {
-            let [command, fresh, out] = values(line, ["command", "fresh", "out"])?;
-            Some(Line::Call { command: bytes(command)?, fresh: bytes(fresh)?, out: out.parse().ok()? })
+            let [interface, command, fresh, out] = values(line, ["interface", "command", "fresh", "out"])?;
+            let (interface, out) = (interface.parse().ok()?, out.parse().ok()?);
+            Some(Line::Call { interface, command: bytes(command)?, fresh: bytes(fresh)?, out })
         }
         "list" => {
             let [listed, out] = values(line, ["ids", "out"])?;

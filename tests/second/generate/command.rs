@@ -1,6 +1,6 @@
 //! Commands for a card as it is: initial, final and broken ones, with fresh bytes and an output size.
 
-use super::{id, size};
+use super::{id, interface, size};
 use crate::card::{Card, final_keys};
 use crate::fault::Fault;
 use crate::keys;
@@ -21,7 +21,7 @@ pub fn call(random: &mut Random, card: &Card, earlier: &[Line]) -> Line {
     if random.percent(8) {
         damage(random, &mut command);
     }
-    Line::Call { command, fresh: fresh(random, card.given.key_length), out: size(random, 256) }
+    Line::Call { interface: interface(random), command, fresh: fresh(random, card.given.key_length), out: size(random, 256) }
 }
 
 /// 253 bytes whose pad bytes are not zero.

@@ -1,7 +1,7 @@
 //! Whole sessions: load, List, initial command, Open, Seal, final command, Accept. The platform's RSA is played by handing the card's
 //! block to the entry whose set made it, and other bytes to the others.
 
-use super::{Case, command, distinct_ids, follow, id, key_length, load, reader};
+use super::{Case, UNKNOWN_INTERFACES, command, distinct_ids, follow, id, key_length, load, reader};
 use crate::card::{self, Card, Mode, filled};
 use crate::fault::Fault;
 use crate::keys::most_payload;
@@ -69,10 +69,13 @@ impl Play<'_> {
         ids
     }
 
-    /// Hands the card a command and gives its answer.
+    /// Hands the card a command by either interface and gives its answer. An unknown interface ends the promise.
     fn command(&mut self, command: Vec<u8>) -> Vec<u8> {
         let fresh = command::good_fresh(self.random, self.card.given.key_length);
-        let call = Line::Call { command, fresh, out: 256 + self.random.below(3) };
+        let unknown = self.random.percent(3);
+        self.promised &= !unknown;
+        let interface = if unknown { self.random.pick(&UNKNOWN_INTERFACES) } else { self.random.below(2) };
+        let call = Line::Call { interface, command, fresh, out: 256 + self.random.below(3) };
         let answer = follow(&mut self.card, &call);
         self.lines.push(call);
         answer

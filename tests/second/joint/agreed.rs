@@ -3,7 +3,7 @@
 use crate::aes::Block;
 use crate::card::{self, Card, Given};
 use crate::fault::Fault;
-use crate::inputs::KEY_LENGTH;
+use crate::inputs::{INTERFACE, KEY_LENGTH};
 use crate::reader::{self, Accepting, Sealing};
 
 pub struct Agreed(Card);
@@ -22,7 +22,7 @@ impl Agreed {
         fresh[..random.len()].copy_from_slice(random);
         fresh[253 - ps.len()..].copy_from_slice(ps);
         let mut out = [0; 256];
-        let answer = card::command(&mut self.0, command, &fresh, &mut out, Fault::None);
+        let answer = card::command(&mut self.0, INTERFACE, command, &fresh, &mut out, Fault::None);
         let given = (answer.number, answer.status, answer.handle);
         assert!(given == (0, 0x9000, handle) && out[..answer.length] == *want, "the card's answer: {}", answer.why);
     }

@@ -8,6 +8,9 @@ const KEYS: &str = include_str!("../joint-keys.txt");
 /// L: that of every key, RND and KeysHash here.
 pub const KEY_LENGTH: usize = 16;
 
+/// The interface by which every command comes, contactless: it is on no wire, and no answer hangs on it.
+pub const INTERFACE: usize = 1;
+
 /// The card's platform names RSA keys by one byte. These two are on no wire.
 const IA_HANDLE: u8 = 0x11;
 const SHILL_HANDLE: u8 = 0x99;
