@@ -1,4 +1,4 @@
-//! A second implementation of document 01 with T-01 to T-05, and the proved library compared with it. Runs from the top of the repository.
+//! A second implementation of document 01 with T-01 to T-06, and the proved library compared with it. Runs from the top of the repository.
 //! Arguments: the number of random calls and the seed, both with a default.
 
 mod aes;
@@ -24,6 +24,7 @@ mod shrink;
 mod side;
 mod tally;
 mod transcript;
+mod tries;
 mod work;
 
 use tally::Tally;
@@ -46,7 +47,9 @@ fn main() {
     all.add(nist::run());
     all.add(published::run());
     all.add(differential::library(calls, seed));
+    all.add(tries::library(seed));
     all.add(differential::self_test(calls, seed));
+    all.add(tries::self_test(seed));
     println!("{} passed, {} failed", all.passed, all.failed);
     std::process::exit(i32::from(all.failed > 0));
 }
