@@ -22,6 +22,15 @@
  * To a stranger a card never refuses. A refused command is answered like an
  * accepted one, with the same length and status 9000, under the shill keys.
  *
+ * Failed tries
+ *
+ *   A card counts the final commands that it refused, those over its contacts
+ *   and those through the air apart. At any time:
+ *
+ *   personaliser, maintenance   plaid_read_tries   reads the two counts
+ *
+ *   Nothing that is sent depends on the counts, and they are not sent.
+ *
  * Door numbers
  *
  *   A door system exports Wiegand numbers and UUIDs as text; a card holds them
@@ -67,8 +76,8 @@
  *
  *   - Each function takes every value of its arguments. It has no error but
  *     its `number`: 0, or one of PLAID_DECLINE_.. below. Where several apply,
- *     the first one in the order written is given. plaid_record declines
- *     nothing and has no number.
+ *     the first one in the order written is given. plaid_record and
+ *     plaid_read_tries decline nothing and have no number.
  *   - A pointer is never NULL, also where its length is 0. It points to at
  *     least as many elements as the length says.
  *   - Buffers given to one call do not overlap.
@@ -93,8 +102,26 @@
  *   SCardBeginTransaction to SCardEndTransaction). Without it two programs
  *   that take turns at one card both end with 20.
  *
- *   A power cycle or a reset ends the session. The card's platform starts from
- *   the card without it: the card that plaid_load returned.
+ *   Each command call names its interface: 0 where the command came in over the
+ *   contacts, 1 where it came through the air. The platform names it by where
+ *   the bytes came in, never by what they say. The session is one for both: a
+ *   platform that wants no final command on one interface behind an initial
+ *   command on the other takes the change for a reset.
+ *
+ *   A power cycle or a reset ends the session; the counts of failed tries
+ *   outlive it. The card's platform goes on from the card that the last
+ *   plaid_command returned, with its session closed: all fields of `session`
+ *   set to 0. It does NOT go back to the card that plaid_load returned. That
+ *   one has counts of 0, and a stranger would clear them by a reset.
+ *
+ *   Where memory is lost with the power, the platform keeps the counts in
+ *   lasting memory. From one command to the next a card changes in `session`
+ *   and `tries` alone. So the card that plaid_load returned, with `tries` as
+ *   they were kept, is the card to start from.
+ *   It writes them before the answer is sent: else a stranger who pulls the
+ *   card early is not counted. It writes each time a final command ran,
+ *   accepted or refused, whether or not a count has changed, and by the same
+ *   steps: else the time of the write tells the two apart.
  *
  *   T=1 and contactless cards carry a command and its answer whole, as
  *   plaid_command takes and gives them. T=0 does not; there the platforms map.
@@ -165,6 +192,10 @@ typedef char plaid_size_is_64_bits[sizeof(size_t) == 8 ? 1 : -1];
 #define PLAID_DIV_DATA 16               /* DivData, whatever L is */
 #define PLAID_VALUE_MOST 32             /* a key, RND or KeysHash, at most */
 
+#define PLAID_INTERFACE_CONTACT 0       /* the interface of a command call: */
+#define PLAID_INTERFACE_CONTACTLESS 1   /* one of these two */
+#define PLAID_TRIES_MOST 65535          /* failed tries of one, at most */
+
 #define PLAID_FRESH 253                 /* fresh bytes of a command call */
 #define PLAID_OUTPUT 256                /* output of a command, at least */
 #define PLAID_BLOCK 256                 /* an RSA block */
@@ -222,6 +253,7 @@ typedef char plaid_size_is_64_bits[sizeof(size_t) == 8 ? 1 : -1];
  */
 #define PLAID_STACK_LOAD 5776
 #define PLAID_STACK_COMMAND 9232
+#define PLAID_STACK_READ_TRIES 1840
 #define PLAID_STACK_LIST 96
 #define PLAID_STACK_OPEN 208
 #define PLAID_STACK_SEAL 1680
@@ -261,7 +293,9 @@ typedef char plaid_size_is_64_bits[sizeof(size_t) == 8 ? 1 : -1];
                                              is empty, over 64 or outside it */
 /* 7 was given before, to records of unequal reply size. It is not given any
    more, and its number is not used for anything else. */
-/* plaid_command */
+/* plaid_command, first of all */
+#define PLAID_DECLINE_INTERFACE 26        /* an interface that is not 0 or 1 */
+/* plaid_command, behind 26 */
 #define PLAID_DECLINE_FRESH_COUNT 8       /* not 253 fresh bytes */
 #define PLAID_DECLINE_PAD_BYTE 9          /* a pad byte is 0 */
 #define PLAID_DECLINE_OUTPUT 10           /* output below 256 */
@@ -368,8 +402,18 @@ typedef struct plaid_session {
 } plaid_session;
 
 /*
+ * Failed tries: how many final commands a card refused, counted apart for the
+ * two interfaces. A count that is at 65535 stays there.
+ */
+typedef struct plaid_tries {
+    uint16_t contact;                   /* interface 0 */
+    uint16_t contactless;               /* interface 1 */
+} plaid_tries;
+
+/*
  * A card. Only plaid_load makes one and only plaid_command changes one; read
- * its fields, but write none.
+ * its fields, but write none. The one exception is the start after a power
+ * cycle or a reset, which closes the session: see "On the line".
  */
 typedef struct plaid_card {
     plaid_key_set_slot sets[PLAID_CARD_KEY_SETS];
@@ -381,6 +425,7 @@ typedef struct plaid_card {
     size_t key_length;                  /* L */
     size_t reply_size;                  /* B: a final answer has 16 B bytes */
     plaid_session session;
+    plaid_tries tries;
 } plaid_card;
 
 typedef struct plaid_loaded {
@@ -400,7 +445,7 @@ typedef struct plaid_loaded {
  * the first on, in the order given. The area is copied into it, with zeros
  * behind. Its reply size B is the largest that any of its records needs, from
  * 2 to 6; a record needs floor((record length + 16) / 16) + 1, whatever L is.
- * It has no session.
+ * It has no session, and its counts of failed tries are 0.
  *
  * Declines, in the order in which they are tested:
  *   21  L is not 16, 24 or 32
@@ -460,11 +505,11 @@ plaid_loaded plaid_load(const plaid_key_set *sets, size_t set_count,
                         const uint8_t *area, size_t area_len);
 
 /*
- * What a command call answers beside the output. The counts are for tests and
- * audits; they stay in the card's side and are not sent.
+ * What a command call answers beside the output. The counts of steps are for
+ * tests and audits; they stay in the card's side and are not sent.
  */
 typedef struct plaid_answer {
-    uint8_t number;                     /* 0, or 8 to 10 */
+    uint8_t number;                     /* 0; 8 to 10, 26 */
     uint16_t status;                    /* sent behind the answer's bytes */
     size_t comparisons;                 /* how many steps of each kind */
     size_t decipherments;
@@ -489,14 +534,17 @@ typedef struct plaid_outcome {
 /*
  * Runs one command on a card.
  *
- * In: the card, the command's bytes, 253 fresh bytes (see "What the platform
- * lends"), and an output buffer of at least 256 bytes.
+ * In: the card; the interface that the command came in by, 0 for contact or 1
+ * for contactless; the command's bytes; 253 fresh bytes (see "What the platform
+ * lends"); and an output buffer of at least 256 bytes. Any number is taken as
+ * interface, and a wrong one is declined.
  *
  * Back: the answer, the work sum and the next card. THE CARD HANDED BACK
  * REPLACES THE OLD ONE, after each call, declined ones too. To use an old value
  * again is to roll the session back: a final command that was answered once
- * would be answered again. After a power cycle or a reset, start from the card
- * that the load returned, which has no session.
+ * would be answered again; and a failed try would not be counted. After a power
+ * cycle or a reset, go on from the last card with its session closed, and not
+ * from the card that the load returned: see "On the line".
  *
  * A command is CLA 00, INS 87 or 86, P1 P2 0000, Lc from 1 to 255, Lc data
  * bytes, Le 00: Lc + 6 bytes in all.
@@ -539,6 +587,16 @@ typedef struct plaid_outcome {
  *   counts: 16 comparisons, floor(Lc / 16) decipherments, B + 1 encipherments
  *   or, for L over 16, B + 2; 3 expansions; 1 hash block or, for L = 32, 2.
  *
+ * Failed tries. A refused final command adds 1 to the card's count for the
+ * interface of its call; where that is at 65535, it stays. The other count is
+ * kept. Why the command was refused makes no difference: no session, a wrong
+ * key, another mode, a damaged text. Nothing else is counted: not an accepted
+ * final command, not an initial one, refused or not, and not a declined call.
+ *
+ * No answer depends on the counts. Two cards that are equal but for them answer
+ * the same calls alike, every byte; this is proved. Nor does an answer depend
+ * on which of the two interfaces a call names.
+ *
  * Accepted and refused have the same number, status, counts and length. Tell
  * an initial answer from a final one by the command's INS or by the length,
  * 256 or at most 96; not by the handle, since a key set's handle may be 0.
@@ -547,12 +605,13 @@ typedef struct plaid_outcome {
  * status, high byte first.
  *
  * Declines, in the order in which they are tested. Each keeps the card as it
- * was, its session too, and writes nothing. Length, counts, sum and handle
- * are 0.
+ * was, its session and its failed tries too, and writes nothing. Length, counts
+ * of steps, sum and handle are 0.
+ *   number 26   interface is not 0 or 1
  *   number  8   fresh_len is not 253
  *   number  9   one of the last 203, 187 or 171 fresh bytes is 0
  *   number 10   out_len is below 256
- *     These three are faults of the platform. Their status is 0 and is not
+ *     These four are faults of the platform. Their status is 0 and is not
  *     sent; put it right and call again.
  *   status 6700 under 4 bytes
  *   status 6E00 CLA is not 00
@@ -564,10 +623,33 @@ typedef struct plaid_outcome {
  *
  * Written: the first `length` bytes of the output, and no others.
  */
-plaid_outcome plaid_command(plaid_card card,
+plaid_outcome plaid_command(plaid_card card, size_t interface,
                             const uint8_t *command, size_t command_len,
                             const uint8_t *fresh, size_t fresh_len,
                             uint8_t *out, size_t out_len);
+
+/*
+ * Reads a card's counts of failed tries.
+ *
+ * In: the card, at any time, also in a session.
+ *
+ * Back: how many final commands it refused since its load, by interface, as
+ * `tries` of the card has them. 65535 is that many or more. Reading changes
+ * nothing: the card goes on as it was, and no call sets a count back to 0 but a
+ * new load, which makes a new card.
+ *
+ * A count does not tell why. Strangers are in it, and so are our own readers
+ * with a wrong FAKey or a mode that the card does not hold, and two programs
+ * that take turns at one card. A stranger who sends initial commands alone is
+ * not.
+ *
+ * Guard the counts. Who sees them before and after a command knows whether it
+ * was refused, which the answer hides. No command of the library sends them; a
+ * platform that does, sends them to the personaliser and to maintenance alone.
+ *
+ * Declines: none. Written: nothing.
+ */
+plaid_tries plaid_read_tries(plaid_card card);
 
 /*
  * The reader

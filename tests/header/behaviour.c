@@ -148,7 +148,8 @@ static size_t extent(const result *r)
 
 /* A result of more than 16 bytes goes where the first argument points, which the function also returns (System V ABI, x86-64). */
 typedef void *raw_load(void *, const plaid_key_set *, size_t, plaid_given, const uint8_t *, size_t);
-typedef void *raw_command(void *, plaid_card, const uint8_t *, size_t, const uint8_t *, size_t, uint8_t *, size_t);
+typedef void *raw_command(void *, plaid_card, size_t, const uint8_t *, size_t, const uint8_t *, size_t, uint8_t *, size_t);
+typedef uint32_t raw_read_tries(plaid_card); /* four bytes come in one register */
 typedef void *raw_open(void *, size_t, plaid_ids, const uint8_t *, size_t);
 typedef void *raw_seal(void *, plaid_sealing, const uint8_t *, size_t, uint8_t *, size_t);
 /* One of up to 16 bytes comes in two registers. */
@@ -164,6 +165,7 @@ typedef registers raw_convert(const uint8_t *, size_t, uint8_t *, size_t);
 #define AS(type, function) ((type *)(void (*)(void))(function))
 static raw_load *volatile load_at = AS(raw_load, plaid_load);
 static raw_command *volatile command_at = AS(raw_command, plaid_command);
+static raw_read_tries *volatile tries_word = AS(raw_read_tries, plaid_read_tries);
 static raw_open *volatile open_at = AS(raw_open, plaid_open);
 static raw_seal *volatile seal_at = AS(raw_seal, plaid_seal);
 static raw_list *volatile list_words = AS(raw_list, plaid_list);
@@ -257,8 +259,9 @@ static void check_loaded(const load_case *c)
         check_card(&loaded.card, c);
         CHECK(!loaded.card.session.opened && loaded.card.session.id.value == 0);
         CHECK(all(loaded.card.session.rnd1, PLAID_VALUE_MOST, 0));
+        CHECK(loaded.card.tries.contact == 0 && loaded.card.tries.contactless == 0);
     }
-    CHECK_SIZE(&r, plaid_loaded, card.session.rnd1);
+    CHECK_SIZE(&r, plaid_loaded, card.tries);
 }
 
 static void load_fields(void)
@@ -320,7 +323,8 @@ static bool no_card(const plaid_card *card)
             return false;
     return all(card->area, PLAID_CARD_AREA, 0) && all(card->div_data, PLAID_DIV_DATA, 0) && all(card->shill_key, PLAID_VALUE_MOST, 0)
         && card->shill_handle == 0 && card->key_length == 0 && card->reply_size == 0 && !card->session.opened
-        && card->session.id.value == 0 && all(card->session.rnd1, PLAID_VALUE_MOST, 0);
+        && card->session.id.value == 0 && all(card->session.rnd1, PLAID_VALUE_MOST, 0) && card->tries.contact == 0
+        && card->tries.contactless == 0;
 }
 
 static void check_no_card(const load_case *c, unsigned number)
@@ -450,6 +454,7 @@ static void load_records(void)
  */
 
 typedef struct {
+    size_t interface;
     uint8_t command[PLAID_COMMAND_MOST + 1];
     size_t command_len;
     uint8_t fresh[PLAID_FRESH + 1];
@@ -458,11 +463,12 @@ typedef struct {
     size_t out_len;
 } call_case;
 
-/* A call whose RND1 is known, over an output buffer that shows what is written. */
+/* A call over the contacts whose RND1 is known, over an output buffer that shows what is written. */
 static call_case call_of(const uint8_t *command, size_t command_len)
 {
     call_case c;
     memset(&c, 0, sizeof c);
+    c.interface = PLAID_INTERFACE_CONTACT;
     memcpy(c.command, command, command_len);
     c.command_len = command_len;
     mark(c.fresh, sizeof c.fresh, 30);
@@ -484,7 +490,7 @@ static call_case initial_call(plaid_key_set_id id)
 
 static plaid_outcome call(plaid_card card, call_case *c)
 {
-    return plaid_command(card, c->command, c->command_len, c->fresh, c->fresh_len, c->out, c->out_len);
+    return plaid_command(card, c->interface, c->command, c->command_len, c->fresh, c->fresh_len, c->out, c->out_len);
 }
 
 /* The same with the result pointer by hand; both results into o. */
@@ -493,11 +499,11 @@ static void raw_call(plaid_card card, call_case *c, plaid_outcome o[2])
     static result r;
     fill(&r);
     for (int i = 0; i < 2; i++) {
-        CHECK(command_at(r.bytes[i], card, c->command, c->command_len, c->fresh, c->fresh_len, c->out, c->out_len)
+        CHECK(command_at(r.bytes[i], card, c->interface, c->command, c->command_len, c->fresh, c->fresh_len, c->out, c->out_len)
             == r.bytes[i]);
         memcpy(&o[i], r.bytes[i], sizeof o[i]);
     }
-    CHECK_SIZE(&r, plaid_outcome, card.session.rnd1);
+    CHECK_SIZE(&r, plaid_outcome, card.tries);
 }
 
 /* Document 01's work sum of one place against eight filled slots. */
@@ -698,7 +704,33 @@ static void list_lengths(void)
     }
 }
 
-/* A declined call: number or status, zeros, the card kept with its session, nothing written. */
+static bool same_session(const plaid_card *a, const plaid_card *b)
+{
+    return a->session.opened == b->session.opened && a->session.id.value == b->session.id.value
+        && memcmp(a->session.rnd1, b->session.rnd1, PLAID_VALUE_MOST) == 0;
+}
+
+static bool same_tries(plaid_tries a, plaid_tries b)
+{
+    return a.contact == b.contact && a.contactless == b.contactless;
+}
+
+/* Two cards equal field by field, their failed tries apart. */
+static bool same_but_tries(const plaid_card *a, const plaid_card *b)
+{
+    bool same = same_session(a, b);
+    for (size_t i = 0; i < PLAID_CARD_KEY_SETS; i++)
+        same = same && a->sets[i].held == b->sets[i].held && a->sets[i].id.value == b->sets[i].id.value
+            && a->sets[i].handle == b->sets[i].handle && memcmp(a->sets[i].fa_key, b->sets[i].fa_key, PLAID_VALUE_MOST) == 0;
+    for (size_t i = 0; i < PLAID_CARD_MODES; i++)
+        same = same && a->modes[i].held == b->modes[i].held && a->modes[i].id.value == b->modes[i].id.value
+            && a->modes[i].start == b->modes[i].start && a->modes[i].len == b->modes[i].len;
+    return same && memcmp(a->area, b->area, PLAID_CARD_AREA) == 0 && memcmp(a->div_data, b->div_data, PLAID_DIV_DATA) == 0
+        && memcmp(a->shill_key, b->shill_key, PLAID_VALUE_MOST) == 0 && a->shill_handle == b->shill_handle
+        && a->key_length == b->key_length && a->reply_size == b->reply_size;
+}
+
+/* A declined call: number or status, zeros, the card kept with its session and failed tries, nothing written. */
 static void check_declined(plaid_card card, call_case *c, unsigned number, unsigned status, int line)
 {
     memset(c->out, CANARY, sizeof c->out);
@@ -706,7 +738,8 @@ static void check_declined(plaid_card card, call_case *c, unsigned number, unsig
     bool zeros = counts_are(&o.answer, 0, 0, 0, 0, 0) && o.answer.length == 0 && o.answer.handle == 0 && o.sum == 0;
     check(o.answer.number == number && o.answer.status == status, "number and status of a declined command", line);
     check(zeros, "zeros of a declined command", line);
-    check(o.card.session.opened && o.card.session.id.value == card.session.id.value, "session after a declined command", line);
+    check(card.session.opened && same_but_tries(&o.card, &card), "card and session after a declined command", line);
+    check(same_tries(o.card.tries, card.tries), "failed tries after a declined command", line);
     check(all(c->out, sizeof c->out, CANARY), "output of a declined command", line);
 }
 #define CHECK_DECLINED(number, status) check_declined(card, &c, number, status, __LINE__)
@@ -715,11 +748,14 @@ static void check_declined(plaid_card card, call_case *c, unsigned number, unsig
 static void command_order(plaid_card card, call_case c)
 {
     call_case right = c;
+    c.interface = PLAID_INTERFACE_CONTACTLESS + 1;
     c.fresh_len = PLAID_FRESH + 1;
     c.fresh[PLAID_FRESH_ANY(key_length)] = 0;
     c.out_len = PLAID_OUTPUT - 1;
     memset(c.command, 0xFF, sizeof c.command);
     c.command_len = 3;
+    CHECK_DECLINED(PLAID_DECLINE_INTERFACE, 0);
+    c.interface = PLAID_INTERFACE_CONTACTLESS;
     CHECK_DECLINED(PLAID_DECLINE_FRESH_COUNT, 0);
     c.fresh_len = PLAID_FRESH - 1;
     CHECK_DECLINED(PLAID_DECLINE_FRESH_COUNT, 0);
@@ -744,6 +780,43 @@ static void command_order(plaid_card card, call_case c)
     CHECK_DECLINED(PLAID_DONE, PLAID_ANSWER_WRONG_LENGTH);
     c.command_len = right.command_len;
     CHECK(call(card, &c).answer.status == PLAID_ANSWER_OK);
+}
+
+/* Numbers that are no interface: all up to 300, and such as are 0 or 1 in their low bytes, or with another sign. */
+static size_t no_interface(size_t i)
+{
+    static const size_t large[] = {65535, 65536, 65537, INT32_MAX, (size_t)INT32_MAX + 1, (size_t)INT32_MAX + 2, UINT32_MAX,
+        (size_t)UINT32_MAX + 1, (size_t)UINT32_MAX + 2, (size_t)INT64_MAX, (size_t)INT64_MAX + 1, (size_t)INT64_MAX + 2, SIZE_MAX - 1, SIZE_MAX};
+    return i < 299 ? i + 2 : large[i - 299];
+}
+#define NO_INTERFACES (299 + 14)
+
+/* Each is declined, with all else right; and before each other fault alone, for both kinds of command. */
+static void command_interfaces(plaid_card card, call_case right)
+{
+    for (size_t i = 0; i < NO_INTERFACES; i++) {
+        call_case c = right;
+        c.interface = no_interface(i);
+        CHECK_DECLINED(PLAID_DECLINE_INTERFACE, 0);
+        c.command[1] = PLAID_INS_FINAL;
+        CHECK_DECLINED(PLAID_DECLINE_INTERFACE, 0);
+        c.command_len = i % (PLAID_COMMAND_MOST + 2);
+        CHECK_DECLINED(PLAID_DECLINE_INTERFACE, 0);
+        c = right;
+        c.interface = no_interface(i);
+        c.fresh_len = 0;
+        CHECK_DECLINED(PLAID_DECLINE_INTERFACE, 0);
+        c.fresh_len = PLAID_FRESH;
+        c.fresh[PLAID_FRESH - 1] = 0;
+        CHECK_DECLINED(PLAID_DECLINE_INTERFACE, 0);
+        c.fresh[PLAID_FRESH - 1] = 1;
+        c.out_len = 0;
+        CHECK_DECLINED(PLAID_DECLINE_INTERFACE, 0);
+    }
+    right.interface = PLAID_INTERFACE_CONTACTLESS;
+    CHECK(call(card, &right).answer.status == PLAID_ANSWER_OK);
+    right.interface = PLAID_INTERFACE_CONTACT;
+    CHECK(call(card, &right).answer.status == PLAID_ANSWER_OK);
 }
 
 static void command_fresh(plaid_card card, call_case c)
@@ -779,7 +852,10 @@ static void commands_declined(void)
     load_case l = full_load();
     call_case c = initial_call(l.sets[2].id);
     plaid_card card = call(load(&l).card, &c).card;
+    card.tries.contact = 0x1234;
+    card.tries.contactless = 0xFFFE;
     command_order(card, c);
+    command_interfaces(card, c);
     command_fresh(card, c);
     command_lengths(card);
 }
@@ -1092,6 +1168,233 @@ static void session(void)
     CHECK(memcmp(work + p.start, l.area + l.given.modes[3].start, p.length) == 0);
     CHECK(memcmp(work + record, l.given.div_data, PLAID_DIV_DATA) == 0 && work[record + PLAID_DIV_DATA] == 0x80);
     CHECK(all(work + 80, sizeof work - 80, CANARY));
+}
+
+/*
+ * Failed tries
+ */
+
+/* The counts as plaid_read_tries gives them, by its register; the same as the card's own, and the card is kept. */
+static plaid_tries read_tries(plaid_card card)
+{
+    plaid_card before = card;
+    plaid_tries t;
+    uint32_t word = tries_word(card);
+    CHECK(sizeof t == sizeof word);
+    memcpy(&t, &word, sizeof t);
+    CHECK(same_tries(t, plaid_read_tries(card)) && same_tries(t, card.tries));
+    CHECK(same_but_tries(&card, &before) && same_tries(card.tries, before.tries));
+    return t;
+}
+
+static bool tries_are(plaid_card card, unsigned contact, unsigned contactless)
+{
+    plaid_tries t = read_tries(card);
+    return t.contact == contact && t.contactless == contactless;
+}
+
+/* One more on an interface; at the most a count stays. */
+static plaid_tries one_more(plaid_tries t, size_t interface)
+{
+    uint16_t *at = interface == 0 ? &t.contact : &t.contactless;
+    *at += *at < 65535;
+    return t;
+}
+
+/* Calls, each with whether it is answered, and whether it is a final command that is refused. They begin with a card in session. */
+typedef struct {
+    const char *name;
+    call_case call;
+    bool in_session, refused;
+} try_case;
+#define TRIES 26
+
+static call_case final_call(const plaid_sealing *of, size_t payload_len)
+{
+    uint8_t command[PLAID_FINAL_COMMAND_MOST];
+    plaid_sealed s = plaid_seal(*of, payload, payload_len, command, sizeof command);
+    CHECK(s.number == PLAID_DONE);
+    return call_of(command, s.length);
+}
+
+/* A final command with so many data bytes of no meaning. */
+static call_case any_final(size_t lc)
+{
+    uint8_t command[PLAID_COMMAND_MOST] = {0x00, PLAID_INS_FINAL, 0x00, 0x00, (uint8_t)lc};
+    mark(command + 5, lc, 50);
+    command[5 + lc] = 0;
+    return call_of(command, lc + 6);
+}
+
+static size_t all_tries(const load_case *l, try_case to[TRIES])
+{
+    static const plaid_op_mode_id unknown_mode = {0x0BAD};
+    static const plaid_key_set_id unknown_set = {0x7E57};
+    plaid_sealing right = sealing_of(l, 3), of;
+    size_t n = 0;
+#define TRY(name, call, in_session, refused) to[n++] = (try_case){name, call, in_session, refused}
+    TRY("accepted", final_call(&right, 0), true, false);
+    TRY("accepted, payload", final_call(&right, PLAID_PAYLOAD(key_length)), true, false);
+    of = sealing_of(l, 15);
+    TRY("accepted, last mode", final_call(&of, 7), true, false);
+    TRY("no session", final_call(&right, 0), false, true);
+    TRY("no session, any bytes", any_final(48), false, true);
+    of = right;
+    of.mode = unknown_mode;
+    TRY("unknown mode", final_call(&of, 0), true, true);
+    TRY("unknown mode, payload", final_call(&of, PLAID_PAYLOAD(key_length)), true, true);
+    of = right;
+    of.fa_key.bytes[key_length - 1] ^= 1;
+    TRY("wrong FAKey", final_call(&of, 0), true, true);
+    of = right;
+    of.rnd1.bytes[0] ^= 1;
+    TRY("wrong RND1", final_call(&of, 0), true, true);
+    of = right;
+    of.div_data[15] ^= 1;
+    TRY("wrong DivData", final_call(&of, 0), true, true);
+    TRY("damaged padding", final_call(&right, 0), true, true);
+    to[n - 1].call.command[to[n - 1].call.command_len - 2] ^= 1;
+    TRY("damaged mode", final_call(&right, 100), true, true);
+    to[n - 1].call.command[5] ^= 0x80;
+    TRY("Lc 1", any_final(1), true, true);
+    TRY("Lc 16", any_final(16), true, true);
+    TRY("Lc 240", any_final(240), true, true);
+    TRY("Lc 255", any_final(255), true, true);
+    TRY("initial, accepted", initial_call(l->sets[5].id), true, false);
+    TRY("initial, accepted, no session", initial_call(l->sets[0].id), false, false);
+    TRY("initial, refused", initial_call(unknown_set), true, false);
+    TRY("initial, malformed", initial_call(l->sets[5].id), true, false);
+    to[n - 1].call.command[5] = 0x31;
+    TRY("declined, 8", final_call(&right, 0), true, false);
+    to[n - 1].call.fresh_len = 0;
+    TRY("declined, 9", any_final(48), true, false);
+    to[n - 1].call.fresh[PLAID_FRESH - 1] = 0;
+    TRY("declined, 10", any_final(48), false, false);
+    to[n - 1].call.out_len = PLAID_OUTPUT - 1;
+    TRY("declined, a class", any_final(48), true, false);
+    to[n - 1].call.command[0] = 0x80;
+    TRY("declined, Le", any_final(48), true, false);
+    to[n - 1].call.command[53] = 1;
+    TRY("declined, a length", any_final(48), false, false);
+    to[n - 1].call.command_len = 53;
+#undef TRY
+    CHECK(n == TRIES);
+    return n;
+}
+
+static bool same_answer(const plaid_answer *a, const plaid_answer *b)
+{
+    return a->number == b->number && a->status == b->status && a->length == b->length && a->handle == b->handle
+        && counts_are(a, b->comparisons, b->decipherments, b->encipherments, b->expansions, b->hash_blocks);
+}
+
+/* One call on cards with these counts: counted as it has to be, and else as the card whose counts are 0, every byte. */
+static void check_try(plaid_card card, const try_case *of, size_t interface, plaid_tries before)
+{
+    call_case c = of->call, first = of->call;
+    plaid_outcome plain = call(card, &first), o[2];
+    plaid_tries after = of->refused ? one_more(before, interface) : before;
+    card.tries = before;
+    c.interface = interface;
+    raw_call(card, &c, o);
+    for (int i = 0; i < 2; i++) {
+        check(same_tries(read_tries(o[i].card), after), of->name, __LINE__);
+        check(same_answer(&o[i].answer, &plain.answer) && o[i].sum == plain.sum, of->name, __LINE__);
+        check(same_but_tries(&o[i].card, &plain.card), of->name, __LINE__);
+    }
+    check(memcmp(c.out, first.out, sizeof c.out) == 0, of->name, __LINE__);
+}
+
+/* Each call on each interface, from counts at which a narrower one, or one that does not hold, is seen. */
+static void tries_counted(void)
+{
+    static const plaid_tries before[] = {{0, 0}, {1, 0}, {0, 1}, {255, 254}, {254, 255}, {0x7FFF, 0x7FFF}, {PLAID_TRIES_MOST - 1, 7},
+        {7, PLAID_TRIES_MOST - 1}, {PLAID_TRIES_MOST, 0}, {0, PLAID_TRIES_MOST}, {PLAID_TRIES_MOST, PLAID_TRIES_MOST}};
+    static try_case of[TRIES];
+    load_case l = full_load();
+    call_case opening = initial_call(l.sets[5].id);
+    plaid_card fresh_card = load(&l).card, in_session = call(fresh_card, &opening).card;
+    size_t count = all_tries(&l, of);
+    for (size_t i = 0; i < count; i++)
+        for (size_t j = 0; j < LENGTH(before); j++)
+            for (size_t interface = 0; interface < 2; interface++)
+                check_try(of[i].in_session ? in_session : fresh_card, &of[i], interface, before[j]);
+}
+
+/* One card through all of them, again and again, each card from the call before: only what was refused is counted. A wrong interface is not. */
+static void tries_of_a_list(void)
+{
+    static try_case of[TRIES];
+    load_case l = full_load();
+    plaid_card card = load(&l).card;
+    size_t count = all_tries(&l, of), interface = 0;
+    plaid_tries wanted = {0, 0};
+    CHECK(tries_are(card, 0, 0));
+    for (size_t i = 0; i < 9 * count; i++) {
+        const try_case *t = &of[i * 7 % count];
+        call_case opening = initial_call(l.sets[5].id), closing = initial_call((plaid_key_set_id){0x7E57}), c = t->call;
+        card = call(card, t->in_session ? &opening : &closing).card;
+        c.interface = 2 + i;
+        card = call(card, &c).card;
+        c.interface = interface = (i * i / 3 + i) % 2;
+        card = call(card, &c).card;
+        wanted = t->refused ? one_more(wanted, interface) : wanted;
+        CHECK(tries_are(card, wanted.contact, wanted.contactless));
+    }
+    CHECK(wanted.contact > 20 && wanted.contactless > 20 && wanted.contact != wanted.contactless);
+}
+
+/* By the names of the two interfaces, to the end: 65,534, 65,535, and there it stays. */
+static void tries_held(void)
+{
+    load_case l = full_load();
+    plaid_card card = load(&l).card;
+    call_case c = any_final(48);
+    c.interface = PLAID_INTERFACE_CONTACTLESS;
+    card = call(card, &c).card;
+    CHECK(tries_are(card, 0, 1));
+    c.interface = PLAID_INTERFACE_CONTACT;
+    card = call(card, &c).card;
+    card = call(card, &c).card;
+    CHECK(tries_are(card, 2, 1));
+    CHECK(PLAID_TRIES_MOST == UINT16_MAX);
+    card.tries.contact = UINT16_MAX - 2;
+    for (unsigned i = 0; i < 5; i++) {
+        card = call(card, &c).card;
+        CHECK(tries_are(card, i < 1 ? PLAID_TRIES_MOST - 1 : PLAID_TRIES_MOST, 1));
+    }
+    c.interface = PLAID_INTERFACE_CONTACTLESS;
+    card.tries.contactless = UINT16_MAX - 2;
+    for (unsigned i = 0; i < 5; i++) {
+        card = call(card, &c).card;
+        CHECK(tries_are(card, PLAID_TRIES_MOST, i < 1 ? PLAID_TRIES_MOST - 1 : PLAID_TRIES_MOST));
+    }
+    /* a reset, as the header has it: the session goes, the counts stay */
+    call_case opening = initial_call(l.sets[5].id);
+    card = call(card, &opening).card;
+    CHECK(card.session.opened && tries_are(card, PLAID_TRIES_MOST, PLAID_TRIES_MOST));
+    memset(&card.session, 0, sizeof card.session);
+    plaid_sealing of = sealing_of(&l, 3);
+    call_case final = final_call(&of, 0);
+    plaid_card fresh_card = load(&l).card;
+    CHECK(same_but_tries(&card, &fresh_card));
+    card.tries.contact = 0;
+    CHECK(tries_are(call(card, &final).card, 1, PLAID_TRIES_MOST));
+}
+
+/* Reading alone: whatever the counts, of a card in session or not, and of what a declined load hands back. */
+static void tries_read(void)
+{
+    load_case l = full_load();
+    call_case opening = initial_call(l.sets[5].id);
+    plaid_card cards[] = {load(&l).card, call(load(&l).card, &opening).card};
+    for (size_t i = 0; i < LENGTH(cards); i++)
+        for (unsigned bit = 0; bit < 16; bit++) {
+            cards[i].tries = (plaid_tries){(uint16_t)(1u << bit), (uint16_t)~(3u << bit)};
+            CHECK(tries_are(cards[i], cards[i].tries.contact, cards[i].tries.contactless));
+        }
+    l.set_count = 0;
+    CHECK(tries_are(load(&l).card, 0, 0));
 }
 
 /* What Accept has to make of an answer of so many bytes with this body, told a length: its front, or 20 and zeros. */
@@ -1577,6 +1880,10 @@ static void run(void)
     seal_declined();
     seal_lengths();
     session();
+    tries_counted();
+    tries_of_a_list();
+    tries_held();
+    tries_read();
     unequal_sessions();
     accept_declined();
     accept_lengths();
