@@ -4,7 +4,7 @@
 #
 # constant: a constant is one more; one that takes L is one more for every L, for those over 16, and for those over 24. stack: the same of
 # the stack's figures, which tests/stack holds. swapped: two neighbouring fields of a struct change places. moved: the last of three or more stands first. typed: a field has another type. missing: one of several is left
-# out. declared: a function takes one argument more.
+# out. declared: a function takes one argument more. narrowed: a number that a function takes has one byte, to which a compiler cuts it.
 
 { line[NR] = $0 }
 
@@ -59,6 +59,15 @@ function field(at,    label, alone) {
     }
 }
 
+# Each size_t at a line of the declaration of `function_name`, as uint8_t.
+function narrow(at,    start, name) {
+    for (start = 1; match(substr(line[at], start), /size_t [a-z_]+/); start += RSTART + RLENGTH - 1) {
+        name = substr(line[at], start + RSTART + 6, RLENGTH - 7)
+        edit[at] = substr(line[at], 1, start + RSTART - 2) "uint8_t " substr(line[at], start + RSTART + 6)
+        write("narrowed", function_name " " name)
+    }
+}
+
 END {
     for (i = 1; i <= NR; i++) {
         split(line[i], word, " ")
@@ -82,6 +91,10 @@ END {
         } else if (line[i] ~ /^plaid_[a-z_]+ plaid_[a-z_]+\(/) {
             edit[i] = with(i, "\\(", "(int more, ")
             write("declared", line[i])
+            function_name = word[2]
+            sub(/\(.*/, "", function_name)
         }
+        if (function_name != "") narrow(i)
+        if (line[i] ~ /;$/) function_name = ""
     }
 }
