@@ -24,7 +24,7 @@
 
 /* A result of more than 16 bytes goes where the first argument points (System V ABI, x86-64): no copy of it is on the caller's stack. */
 typedef void raw_load(void *, const plaid_key_set *, size_t, plaid_given, const uint8_t *, size_t);
-typedef void raw_command(void *, plaid_card, const uint8_t *, size_t, const uint8_t *, size_t, uint8_t *, size_t);
+typedef void raw_command(void *, plaid_card, size_t, const uint8_t *, size_t, const uint8_t *, size_t, uint8_t *, size_t);
 typedef void raw_open(void *, size_t, plaid_ids, const uint8_t *, size_t);
 typedef void raw_seal(void *, plaid_sealing, const uint8_t *, size_t, uint8_t *, size_t);
 
@@ -45,7 +45,7 @@ static plaid_given given;
 static uint8_t area[PLAID_CARD_AREA];
 static plaid_card card;
 static uint8_t command[PLAID_COMMAND_MOST], fresh[PLAID_FRESH], out[PLAID_OUTPUT];
-static size_t set_count, command_len;
+static size_t set_count, interface, command_len;
 static plaid_ids ids;
 static uint8_t blocks[PLAID_LIST_IDS * PLAID_BLOCK];
 static plaid_sealing sealing;
@@ -56,6 +56,7 @@ static uint8_t door[PLAID_UUID_TEXT];
 
 static plaid_loaded loaded;
 static plaid_outcome outcome;
+static plaid_tries tries;
 static plaid_written written;
 static plaid_opened opened;
 static plaid_sealed sealed;
@@ -113,6 +114,7 @@ static void given_card(void)
     given_load();
     loaded = plaid_load(sets, set_count, given, area, sizeof area);
     card = loaded.card;
+    interface = PLAID_INTERFACE_CONTACT;
     memset(fresh, 0xF5, sizeof fresh);
     memset(out, 0, sizeof out);
 }
@@ -142,6 +144,7 @@ static void given_other_forms(void)
 static void given_initial(void) { given_list(true); }
 static void given_unknown(void) { given_list(false); }
 static void given_malformed(void) { given_list(true); command[8] = 0x05; }
+static void given_no_interface(void) { given_list(true); interface = 2; }
 static void given_zero_pad(void) { given_list(true); fresh[PLAID_FRESH - 1] = 0; }
 static void given_no_frame(void) { given_list(true); command_len = 3; }
 
@@ -164,7 +167,7 @@ static void given_seal_short_rnd2(void) { given_seal(); sealing.rnd2.length--; }
 static void given_final_of(size_t mode, size_t payload_len)
 {
     given_initial();
-    card = plaid_command(card, command, command_len, fresh, sizeof fresh, out, sizeof out).card;
+    card = plaid_command(card, interface, command, command_len, fresh, sizeof fresh, out, sizeof out).card;
     given_sealing(mode);
     sealed = plaid_seal(sealing, payload, payload_len, command, sizeof command);
     command_len = sealed.length;
@@ -196,6 +199,15 @@ static void given_most_final(void) { given_odd_final(255); }
 static void given_least_final(void) { given_odd_final(1); }
 static void given_no_session(void) { given_odd_final(255); card.session = loaded.card.session; }
 
+/* Over the air; and with counts that stay where they are. */
+static void given_contactless_final(void) { given_longest_final(); interface = PLAID_INTERFACE_CONTACTLESS; }
+static void given_contactless_refused(void) { given_wrong_final(); interface = PLAID_INTERFACE_CONTACTLESS; }
+static void given_held(void) { given_wrong_final(); card.tries = (plaid_tries){PLAID_TRIES_MOST, PLAID_TRIES_MOST}; }
+
+/* A card that has counted, new and in session. */
+static void given_tries(void) { given_card(); card.tries = (plaid_tries){3, 5}; }
+static void given_tries_in_session(void) { given_longest_final(); card.tries = (plaid_tries){3, 5}; }
+
 static void given_ids(void)
 {
     for (unsigned i = 0; i < PLAID_LIST_IDS; i++)
@@ -226,7 +238,7 @@ static void given_open_no_length(void) { given_blocks(); open_length = 20; }
 static void given_response_of(size_t mode)
 {
     given_final_of(mode, PLAID_PAYLOAD(key_length));
-    plaid_command(card, command, command_len, fresh, sizeof fresh, out, sizeof out);
+    plaid_command(card, interface, command, command_len, fresh, sizeof fresh, out, sizeof out);
     memcpy(response, out, sizeof response);
 }
 
@@ -259,6 +271,11 @@ static bool taken(void)
     return plaid_accept(accepting, out, outcome.answer.length, work, sizeof work).number == PLAID_DONE;
 }
 
+static bool tries_are(unsigned contact, unsigned contactless)
+{
+    return outcome.card.tries.contact == contact && outcome.card.tries.contactless == contactless;
+}
+
 static bool answered(size_t length)
 {
     return outcome.answer.number == PLAID_DONE && outcome.answer.status == PLAID_ANSWER_OK && outcome.answer.length == length;
@@ -271,7 +288,8 @@ static bool answered(size_t length)
 /* The functions, with the bytes of their arguments on the stack: structs over 16 bytes, and integers past the sixth. */
 #define FUNCTIONS(f) \
     f(LOAD, plaid_load, sizeof(plaid_given)) \
-    f(COMMAND, plaid_command, sizeof(plaid_card) + sizeof(size_t)) \
+    f(COMMAND, plaid_command, sizeof(plaid_card) + 2 * sizeof(size_t)) \
+    f(READ_TRIES, plaid_read_tries, sizeof(plaid_card)) \
     f(LIST, plaid_list, sizeof(plaid_ids)) \
     f(OPEN, plaid_open, sizeof(plaid_ids)) \
     f(SEAL, plaid_seal, sizeof(plaid_sealing)) \
@@ -285,7 +303,7 @@ static bool answered(size_t length)
 #define LOADS(label, give, test) \
     c(LOAD, label, give, load_at(&loaded, sets, set_count, given, area, sizeof area), test)
 #define RUNS(label, give, fresh_len, out_len, test) \
-    c(COMMAND, label, give, command_at(&outcome, card, command, command_len, fresh, fresh_len, out, out_len), test)
+    c(COMMAND, label, give, command_at(&outcome, card, interface, command, command_len, fresh, fresh_len, out, out_len), test)
 
 #define CONVERTS(function, of, label, give, in, out_len, test) \
     c(function, label, give, converted = of(door, in, out, out_len), converted.number == test)
@@ -301,6 +319,7 @@ static bool answered(size_t length)
     LOADS(load_refused_5, given_bad_mode, loaded.number == PLAID_DECLINE_MODE_REPEATED) \
     LOADS(load_refused_6, given_bad_record, loaded.number == PLAID_DECLINE_RECORD) \
     LOADS(load_equal_sizes, given_equal_sizes, loaded.number == PLAID_DONE && loaded.card.reply_size == 6) \
+    RUNS(declined_26, given_no_interface, PLAID_FRESH, PLAID_OUTPUT, outcome.answer.number == PLAID_DECLINE_INTERFACE) \
     RUNS(declined_8, given_initial, PLAID_FRESH - 1, PLAID_OUTPUT, outcome.answer.number == PLAID_DECLINE_FRESH_COUNT) \
     RUNS(declined_9, given_zero_pad, PLAID_FRESH, PLAID_OUTPUT, outcome.answer.number == PLAID_DECLINE_PAD_BYTE) \
     RUNS(declined_10, given_initial, PLAID_FRESH, PLAID_OUTPUT - 1, outcome.answer.number == PLAID_DECLINE_OUTPUT) \
@@ -317,6 +336,11 @@ static bool answered(size_t length)
     RUNS(final_refused_255, given_most_final, PLAID_FRESH, PLAID_OUTPUT, card.session.opened && answered(96) && !taken()) \
     RUNS(final_refused_1, given_least_final, PLAID_FRESH, PLAID_OUTPUT, card.session.opened && answered(96) && !taken()) \
     RUNS(final_no_session, given_no_session, PLAID_FRESH, PLAID_OUTPUT, !card.session.opened && answered(96) && !taken()) \
+    RUNS(final_contactless, given_contactless_final, PLAID_FRESH, PLAID_OUTPUT, answered(96) && taken() && tries_are(0, 0)) \
+    RUNS(final_contactless_refused, given_contactless_refused, PLAID_FRESH, PLAID_OUTPUT, answered(96) && !taken() && tries_are(0, 1)) \
+    RUNS(final_refused_held, given_held, PLAID_FRESH, PLAID_OUTPUT, answered(96) && !taken() && tries_are(65535, 65535)) \
+    c(READ_TRIES, tries_new, given_tries, tries = plaid_read_tries(card), tries.contact == 3 && tries.contactless == 5) \
+    c(READ_TRIES, tries_in_session, given_tries_in_session, tries = plaid_read_tries(card), card.session.opened && tries.contactless == 5) \
     c(LIST, listed, given_ids, written = plaid_list(ids, out, sizeof out), written.length == PLAID_LIST_COMMAND_MOST) \
     c(LIST, declined_12, given_ids_twice, written = plaid_list(ids, out, sizeof out), written.number == PLAID_DECLINE_LIST_REPEATED) \
     c(LIST, declined_13, given_ids, written = plaid_list(ids, out, 71), written.number == PLAID_DECLINE_LIST_OUTPUT) \
