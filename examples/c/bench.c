@@ -18,8 +18,8 @@ static long exchange(void *line, const uint8_t *command, size_t command_len, uin
         x->command[command_len - 2] ^= 0x01; /* the last data byte; Le stands behind it */
     if (!platform_fresh(fresh, b->card.key_length))
         return -1;
-    card_answer(&b->card, x->command, command_len, fresh, &x->reply);
-    card_answer(&b->other, x->command, command_len, fresh, &others);
+    card_answer(&b->card, b->interface, x->command, command_len, fresh, &x->reply);
+    card_answer(&b->other, b->interface, x->command, command_len, fresh, &others);
     platform_erase(fresh, sizeof fresh);
     size_t length = x->reply.length;
     if (x->reply.fault != CARD_DONE || length > answer_room)
@@ -131,9 +131,10 @@ bool bench_keys(void)
 }
 
 /* Cards and reader before a session. */
-static bool prepare(bench *b, size_t key_length, const example_mode *mode, bench_fault fault)
+static bool prepare(bench *b, size_t interface, size_t key_length, const example_mode *mode, bench_fault fault)
 {
     memset(b, 0, sizeof *b);
+    b->interface = interface;
     b->fault = fault;
     if (!load_cards(b, key_length))
         return false;
@@ -149,15 +150,24 @@ static bool run(bench *b)
     return b->exchanges == 2 || send_random_final(b);
 }
 
-bool bench_run(bench *b, size_t key_length, const example_mode *mode, bench_fault fault)
+bool bench_run(bench *b, size_t interface, size_t key_length, const example_mode *mode, bench_fault fault)
 {
-    return prepare(b, key_length, mode, fault) && run(b);
+    return prepare(b, interface, key_length, mode, fault) && run(b);
+}
+
+bool bench_run_again(bench *b, size_t interface, const example_mode *mode, bench_fault fault)
+{
+    b->interface = interface;
+    b->fault = fault;
+    b->exchanges = 0;
+    prepare_reader(b, mode);
+    return run(b);
 }
 
 bool bench_run_other_list(bench *b, size_t key_length, const example_mode *mode)
 {
     static const bench_fault none;
-    if (!prepare(b, key_length, mode, none))
+    if (!prepare(b, PLAID_INTERFACE_CONTACT, key_length, mode, none))
         return false;
     b->plan.exchange = other_exchange;
     return run(b);

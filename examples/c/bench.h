@@ -34,6 +34,7 @@ typedef struct {
 
 typedef struct {
     plaid_card card, other;
+    size_t interface; /* that the commands come in by, for both cards */
     bench_fault fault;
     plaid_key_set sets[PLAID_LIST_IDS]; /* the reader's */
     reader_plan plan;
@@ -46,10 +47,13 @@ typedef struct {
 /* Loads the RSA keys of the cards and the readers. False where one is not there. */
 bool bench_keys(void);
 
-/* Runs a session for a mode, with keys of so many bytes. False where a load was declined or the platform failed. */
-bool bench_run(bench *b, size_t key_length, const example_mode *mode, bench_fault fault);
+/* Runs a session for a mode, with keys of so many bytes, on new cards. False where a load was declined or the platform failed. */
+bool bench_run(bench *b, size_t interface, size_t key_length, const example_mode *mode, bench_fault fault);
 
-/* The same with nothing wrong, and the list of another maker's reader in the place of ours: the same KeySetIDs, other forms of length. */
+/* The next session of the same cards. */
+bool bench_run_again(bench *b, size_t interface, const example_mode *mode, bench_fault fault);
+
+/* One with new cards over the contacts, nothing wrong, and the list of another maker's reader in the place of ours: the same KeySetIDs, other forms of length. */
 bool bench_run_other_list(bench *b, size_t key_length, const example_mode *mode);
 
 /* What the library has to decline by 21 or 22, one call for each. */

@@ -6,7 +6,7 @@
 const char *card_words(card_fault fault)
 {
     static const char *const words[] = {
-        "done", "no random bytes, answered 6F00", "plaid_command declined the fresh bytes, answered 6F00", "RSA failed, answered 6F00"};
+        "done", "no random bytes, answered 6F00", "plaid_command declined the call, answered 6F00", "RSA failed, answered 6F00"};
     return words[fault];
 }
 
@@ -33,10 +33,11 @@ static void fail(card_reply *r, card_fault fault)
     set_status(r, 0, CARD_STATUS_FAILED);
 }
 
-void card_answer(plaid_card *card, const uint8_t *command, size_t command_len, const uint8_t fresh[PLAID_FRESH], card_reply *reply)
+void card_answer(plaid_card *card, size_t interface, const uint8_t *command, size_t command_len, const uint8_t fresh[PLAID_FRESH],
+    card_reply *reply)
 {
     memset(reply, 0, sizeof *reply);
-    plaid_outcome o = plaid_command(*card, command, command_len, fresh, PLAID_FRESH, reply->bytes, PLAID_OUTPUT);
+    plaid_outcome o = plaid_command(*card, interface, command, command_len, fresh, PLAID_FRESH, reply->bytes, PLAID_OUTPUT);
     *card = o.card; /* always: the old card is never used again */
     reply->told = o.answer;
     reply->sum = o.sum;
@@ -51,14 +52,20 @@ void card_answer(plaid_card *card, const uint8_t *command, size_t command_len, c
         set_status(reply, told->length, told->status);
 }
 
-void card_serve(plaid_card *card, const uint8_t *command, size_t command_len, card_reply *reply)
+void card_serve(plaid_card *card, size_t interface, const uint8_t *command, size_t command_len, card_reply *reply)
 {
     uint8_t fresh[PLAID_FRESH];
     if (platform_fresh(fresh, card->key_length)) {
-        card_answer(card, command, command_len, fresh, reply);
+        card_answer(card, interface, command, command_len, fresh, reply);
     } else {
         memset(reply, 0, sizeof *reply);
         fail(reply, CARD_NO_RANDOM);
     }
     platform_erase(fresh, sizeof fresh);
+}
+
+/* Zeros in every field: no session is open. RND1 is a secret. */
+void card_reset(plaid_card *card)
+{
+    platform_erase(&card->session, sizeof card->session);
 }

@@ -14,7 +14,7 @@
 typedef enum {
     CARD_DONE,
     CARD_NO_RANDOM, /* no fresh bytes */
-    CARD_DECLINED,  /* plaid_command declined them, or the output */
+    CARD_DECLINED,  /* plaid_command declined them, the interface or the output */
     CARD_NO_RSA     /* RSA failed */
 } card_fault;
 
@@ -33,12 +33,20 @@ const char *card_words(card_fault fault);
 bool card_keys(const plaid_card *card);
 
 /*
- * Runs a command with these fresh bytes, puts the next card in the place of the old one and gives what is to be sent. Where RSA failed the
- * next card stands all the same: the session that it may have opened has an RND1 that nobody was told.
+ * Runs a command that came in by this interface, PLAID_INTERFACE_.., with these fresh bytes, puts the next card in the place of the old one
+ * and gives what is to be sent. Where RSA failed the next card stands all the same: the session that it may have opened has an RND1 that
+ * nobody was told.
  */
-void card_answer(plaid_card *card, const uint8_t *command, size_t command_len, const uint8_t fresh[PLAID_FRESH], card_reply *reply);
+void card_answer(plaid_card *card, size_t interface, const uint8_t *command, size_t command_len, const uint8_t fresh[PLAID_FRESH],
+    card_reply *reply);
 
 /* The same with fresh bytes of its own, for the card's L, which are erased. Without any the card stays as it was. */
-void card_serve(plaid_card *card, const uint8_t *command, size_t command_len, card_reply *reply);
+void card_serve(plaid_card *card, size_t interface, const uint8_t *command, size_t command_len, card_reply *reply);
+
+/*
+ * A power cycle or a reset: the session ends, and the counts of failed tries stay. A product whose memory does not outlive the power writes
+ * them to lasting memory in card_answer, before the answer is sent, each time a final command ran.
+ */
+void card_reset(plaid_card *card);
 
 #endif

@@ -1,7 +1,7 @@
 /*
  * Sessions to watch: a card and a reader on the bench, for each of the card's two records, each message with its fields in words; one that
  * another maker's list opens; one with keys of 24 bytes, one with keys of 32; then one refused session of each kind, as a stranger sees it
- * and as the key holder sees it; and what the library declines for its lengths. Each record stands in the door system's form too; at the
+ * and as the key holder sees it; a card's counts of failed tries; and what the library declines for its lengths. Each record stands in the door system's form too; at the
  * end such texts become the records again, and others are declined. Exit status 1 where something was not as expected.
  *
  *   watch [KEYS]      KEYS: the folder of RSA keys; none: the stand-in, which the output names
@@ -181,6 +181,17 @@ static void show_count(const char *name, size_t initial, size_t final)
     printf("    %-16s%10zu%10zu\n", name, initial, final);
 }
 
+static const char *interface_name(size_t interface)
+{
+    return interface == PLAID_INTERFACE_CONTACT ? "contact" : "contactless";
+}
+
+static bool tries_are(const plaid_card *card, unsigned contact, unsigned contactless)
+{
+    plaid_tries tries = plaid_read_tries(*card);
+    return tries.contact == contact && tries.contactless == contactless;
+}
+
 static void show_counts(const card_reply *initial, const card_reply *final)
 {
     const plaid_answer *i = &initial->told, *f = &final->told;
@@ -236,12 +247,19 @@ static bool alike_on_the_line(const bench *a, const bench *b)
     return a->initial.command_len == b->initial.command_len && alike_behind_the_list(a, b);
 }
 
-/* A session that yields the record, in full. */
-static bool watch_good(bench *b, size_t key_length, const example_mode *mode)
+/* The counts of a card, as the personaliser reads them. */
+static void show_tries(const char *before, const plaid_card *card, const char *behind)
+{
+    plaid_tries tries = plaid_read_tries(*card);
+    printf("%scontact %u, contactless %u%s\n", before, tries.contact, tries.contactless, behind);
+}
+
+/* A session that yields the record, in full. The card counts nothing. */
+static bool watch_good(bench *b, size_t interface, size_t key_length, const example_mode *mode)
 {
     static const bench_fault none;
-    if (!bench_run(b, key_length, mode, none) || b->number != PLAID_DONE || !record_is(b, mode) || !door_comes_back(b)
-        || b->final.command_len != PLAID_FINAL_COMMAND_LEAST(key_length))
+    if (!bench_run(b, interface, key_length, mode, none) || b->number != PLAID_DONE || !record_is(b, mode) || !door_comes_back(b)
+        || b->final.command_len != PLAID_FINAL_COMMAND_LEAST(key_length) || !tries_are(&b->card, 0, 0))
         return false;
     if (key_length == EXAMPLE_KEY_LENGTH) {
         printf("\nSESSION FOR MODE %04X: %s, %zu bytes\n", mode->id.value, mode->name, mode->record_length);
@@ -250,11 +268,13 @@ static bool watch_good(bench *b, size_t key_length, const example_mode *mode)
         printf("    Both ends have L = %zu: a rule of this house, that no other maker's end has.\n", key_length);
         printf("    The diversified key is made of two enciphered blocks and not of one.\n");
     }
+    printf("    interface   %s: the card's platform says %zu in each call\n", interface_name(interface), interface);
     show_initial(b);
     show_opened(b);
     show_final(b);
     show_record(b);
     show_counts(&b->initial.reply, &b->final.reply);
+    show_tries("    failed tries    ", &b->card, "    not sent");
     return true;
 }
 
@@ -324,6 +344,7 @@ static void explain_final(const bench *b, const char *cause)
                "             given the same fresh bytes, sends the same %zu bytes\n", b->final.answer_len);
     else
         printf("    card     accepts: %zu bytes, record and filler, before DivData\n", 16 * (b->card.reply_size - 2));
+    show_tries("    card     has counted failed tries: ", &b->card, "");
     if (b->session.accepted.number != PLAID_DONE)
         printf("    reader   Accept gives %d: not authenticated, no record\n", b->session.accepted.number);
     else
@@ -344,21 +365,27 @@ static void show_refused(const bench *b, const refusal *of)
     printf("\nREFUSED: %s\n  as a stranger sees it\n", of->title);
     show_exchange(&b->initial);
     show_exchange(&b->final);
-    printf("  as the key holder sees it\n");
+    printf("  as the key holder sees it, interface %s\n", interface_name(b->interface));
     explain_initial(b);
     explain_final(b, of->cause);
 }
 
-/* Runs it for the L of a good session, and shows it where L is the examples'. */
+/* Runs it for the L of a good session. The card counts its own refusal, for the interface of the session alone. */
+static bool refused_over(bench *b, size_t interface, const bench *good, const refusal *of)
+{
+    bool air = interface == PLAID_INTERFACE_CONTACTLESS;
+    return bench_run(b, interface, good->card.key_length, &example_wiegand, of->fault) && b->number == of->number
+        && b->final.as_other_card == of->card_refuses && !b->card.session.opened && b->session.record.length == 0
+        && alike_on_the_line(b, good) && tries_are(&b->card, of->card_refuses && !air, of->card_refuses && air);
+}
+
+/* On both interfaces; shows the one through the air, where L is the examples'. */
 static bool watch_refused(const bench *good, const refusal *of)
 {
     static bench b;
-    if (!bench_run(&b, good->card.key_length, &example_wiegand, of->fault))
-        return false;
+    bool expected = refused_over(&b, PLAID_INTERFACE_CONTACT, good, of) && refused_over(&b, PLAID_INTERFACE_CONTACTLESS, good, of);
     if (good->card.key_length == EXAMPLE_KEY_LENGTH)
         show_refused(&b, of);
-    bool expected = b.number == of->number && b.final.as_other_card == of->card_refuses && !b.card.session.opened
-        && b.session.record.length == 0 && alike_on_the_line(&b, good);
     bench_forget(&b);
     return expected;
 }
@@ -383,6 +410,69 @@ static bool watch_all_refused(const bench *good)
     if (good->card.key_length != EXAMPLE_KEY_LENGTH)
         printf("\nREFUSED WITH KEYS OF %zu BYTES: the same %zu sessions, with the same numbers\n", good->card.key_length, REFUSALS);
     return true;
+}
+
+/* One session of a card that goes on from those before it, and what it has counted then. */
+typedef struct {
+    size_t interface;
+    const char *title;
+    bench_fault fault;
+    bool card_refuses;
+    unsigned contact, contactless;
+} next_try;
+
+static const next_try next_tries[] = {
+    {PLAID_INTERFACE_CONTACT, "nothing wrong", {0}, false, 0, 0},
+    {PLAID_INTERFACE_CONTACTLESS, "no key set in common", {.no_common_set = true}, true, 0, 1},
+    {PLAID_INTERFACE_CONTACTLESS, "wrong FAKey", {.wrong_key = true}, true, 0, 2},
+    {PLAID_INTERFACE_CONTACT, "damaged padding", {.damage = true}, true, 1, 2},
+    {PLAID_INTERFACE_CONTACTLESS, "unknown mode", {.unknown_mode = true}, true, 1, 3},
+    {PLAID_INTERFACE_CONTACTLESS, "nothing wrong", {0}, false, 1, 3},
+};
+
+static void show_try(const char *interface, const char *title, const char *answer, const plaid_card *card)
+{
+    plaid_tries tries = plaid_read_tries(*card);
+    printf("    %-11s  %-22s  %-14s%9u%13u\n", interface, title, answer, tries.contact, tries.contactless);
+}
+
+/* A call that names no interface, and a reset while a session is open: neither changes a count. */
+static bool watch_not_counted(bench *b, unsigned contact, unsigned contactless)
+{
+    card_reply reply;
+    card_serve(&b->card, 2, b->final.command, b->final.command_len, &reply);
+    bool ok = reply.fault == CARD_DECLINED && reply.told.number == PLAID_DECLINE_INTERFACE && tries_are(&b->card, contact, contactless);
+    show_try("none: 2", "the last command again", "declines, 26", &b->card);
+    card_serve(&b->card, PLAID_INTERFACE_CONTACT, b->initial.command, b->initial.command_len, &reply);
+    ok = ok && b->card.session.opened;
+    card_reset(&b->card);
+    show_try("contact", "opened, then a reset", "", &b->card);
+    return ok && !b->card.session.opened && tries_are(&b->card, contact, contactless);
+}
+
+/* One card, session by session: what it counts. Every session is on the line like a good one. */
+static bool watch_tries(const bench *good)
+{
+    static bench b;
+    const size_t count = sizeof next_tries / sizeof next_tries[0];
+    const next_try *of = next_tries;
+    bool ok = true;
+    printf("\nFAILED TRIES OF ONE CARD, which plaid_read_tries gives and no answer tells\n");
+    printf("    %-11s  %-22s  %-14s%9s%13s\n", "interface", "session", "the card", "contact", "contactless");
+    for (size_t i = 0; ok && i < count; i++, of++) {
+        ok = i == 0 ? bench_run(&b, of->interface, EXAMPLE_KEY_LENGTH, &example_wiegand, of->fault)
+                    : bench_run_again(&b, of->interface, &example_wiegand, of->fault);
+        ok = ok && b.final.as_other_card == of->card_refuses && (b.number == PLAID_DONE) == !of->card_refuses && alike_on_the_line(&b, good)
+            && tries_are(&b.card, of->contact, of->contactless);
+        if (ok)
+            show_try(interface_name(of->interface), of->title, of->card_refuses ? "refuses" : "accepts", &b.card);
+    }
+    ok = ok && watch_not_counted(&b, of[-1].contact, of[-1].contactless);
+    if (ok)
+        show_tries("    The other card refused in all six, and sent the same bytes where this one\n"
+                   "    refused too. It has counted ", &b.other, ": no byte tells.");
+    bench_forget(&b);
+    return ok;
 }
 
 /* What the library declines for its lengths, with all else as in a good session. */
@@ -459,7 +549,8 @@ static bool watch_door_declined(void)
 /* A session for keys of 24 or 32 bytes. */
 static bool watch_longer(bench *b, size_t key_length, const bench *good)
 {
-    return watch_good(b, key_length, &example_wiegand) && b->initial.command_len == good->initial.command_len && answered_alike(b, good);
+    size_t interface = key_length == 24 ? PLAID_INTERFACE_CONTACTLESS : PLAID_INTERFACE_CONTACT;
+    return watch_good(b, interface, key_length, &example_wiegand) && b->initial.command_len == good->initial.command_len && answered_alike(b, good);
 }
 
 static bool watch_all(bench good[3])
@@ -468,12 +559,13 @@ static bool watch_all(bench good[3])
     plaid_loaded loaded = example_card(EXAMPLE_KEY_LENGTH);
     show_card(&loaded.card);
     platform_erase(&loaded, sizeof loaded);
-    bool ok = watch_good(&good[0], 16, &example_wiegand) && watch_good(&second, 16, &example_uuid) && alike_on_the_line(&second, &good[0]);
+    bool ok = watch_good(&good[0], PLAID_INTERFACE_CONTACT, 16, &example_wiegand)
+        && watch_good(&second, PLAID_INTERFACE_CONTACTLESS, 16, &example_uuid) && alike_on_the_line(&second, &good[0]);
     bench_forget(&second);
     ok = ok && watch_other_list(&good[0]) && watch_longer(&good[1], 24, &good[0]) && watch_longer(&good[2], 32, &good[0]);
     for (size_t i = 0; ok && i < 3; i++)
         ok = watch_all_refused(&good[i]);
-    return ok && watch_declined(&good[0]) && watch_door_records(&good[0]) && watch_door_declined();
+    return ok && watch_tries(&good[0]) && watch_declined(&good[0]) && watch_door_records(&good[0]) && watch_door_declined();
 }
 
 int main(int argc, char **argv)
@@ -493,7 +585,7 @@ int main(int argc, char **argv)
     if (ok)
         printf("\nOn the line all sessions with keys of 16 bytes were alike, the other list's\n"
                "length apart: messages of %zu, %zu, %zu and %zu bytes, status 9000. With keys of 24\n"
-               "and 32 bytes the final command had %zu and %zu. Five sessions gave a record.\n",
+               "and 32 bytes the final command had %zu and %zu. Seven sessions gave a record.\n",
             good[0].initial.command_len, good[0].initial.answer_len, good[0].final.command_len, good[0].final.answer_len,
             good[1].final.command_len, good[2].final.command_len);
     else

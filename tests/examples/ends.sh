@@ -36,6 +36,21 @@ sessions() { # KEYS: '' is the stand-in
     holds "$name: unknown mode, its length given" gives "reader: no record, number 20, exit 1" "$(session "$1" 0009:4)"
     lengths "$name" "$1"
     key_lengths "$name" "$1"
+    interfaces "$name" "$1"
+}
+# What the card has counted at the end: a refused final command, for its own interface.
+tries() { gives "card: failed tries: contact $1, contactless $2" "$(grep 'failed tries' "$room/card-told")"; }
+interfaces() { # NAME KEYS
+    local card_flag flag contact
+    for flag in '' -contact -contactless -contactless,-L24; do
+        card_flag=(${flag//,/ })
+        case $flag in -contactless*) contact=0 ;; *) contact=1 ;; esac
+        if [[ $flag = *-L24 ]]; then local reader_flag=(-L24); fi
+        holds "$1, card $flag: record of mode 0007" gives "$record" "$(session "$2" 0007)"
+        holds "$1, card $flag: nothing counted" tries 0 0
+        holds "$1, card $flag: unknown mode" gives "reader: no record, number 20, exit 1" "$(session "$2" 0BAD)"
+        holds "$1, card $flag: one failed try" tries $contact $((1 - contact))
+    done
 }
 # Both ends have L bytes in a key; or each another L, and the reader ends with 15, as with a card that has none of its sets.
 key_lengths() { # NAME KEYS
@@ -86,7 +101,12 @@ card() {
     { printf '%s\n' "$@" | env "${card_env[@]}" "$ex/card" ${keys:+"$keys"} 2>"$room/complaints"; echo "exit $?"; } | paste -sd ' '
 }
 keys=
-complains() { gives "$1" "$(grep -v STAND-IN "$room/complaints")"; }
+complains() { gives "$1" "$(grep -v 'STAND-IN\|failed tries' "$room/complaints")"; }
+# tried FLAG CONTACT CONTACTLESS LINE..: what the card has counted behind these lines
+tried() {
+    printf '%s\n' "${@:4}" | "$ex/card" ${1:+"$1"} 2>"$room/complaints" >/dev/null
+    gives "card: failed tries: contact $2, contactless $3" "$(grep 'failed tries' "$room/complaints")"
+}
 initial=00870000063004040201020"0"
 final=0086000010$(zeros 32)00
 
@@ -110,6 +130,20 @@ card: line 2: too long for a command
 card: line 3: too long for a command"
 }
 
+# Final commands that are refused are counted; initial ones, and lines that are declined or no command, are not.
+card_counts() {
+    local flag unknown=00870000063004040277770"0"
+    for flag in -contact -contactless; do
+        counted() { if [ "$flag" = -contact ]; then tried "$flag" "$1" 0 "${@:2}"; else tried "$flag" 0 "$1" "${@:2}"; fi; }
+        holds "card $flag: no line, nothing counted" counted 0 ""
+        holds "card $flag: three failed tries" counted 3 "$final" "$final" "$final"
+        holds "card $flag: a failed try in a session" counted 1 "$initial" "$final"
+        holds "card $flag: initial commands are not counted" counted 0 "$initial" "$unknown" 00870000013000
+        holds "card $flag: what is declined is not counted" counted 1 80860000 0086000010 "80${final:2}" "$final" "${final}00" zz 008600
+    done
+    holds "card: contact where no flag is given" tried '' 2 0 "$final" "$final"
+}
+
 # usage PROGRAM ARGUMENT..: says how it is called, and ends with 2
 usage() {
     "$@" </dev/null 2>"$room/complaints" >"$room/out"
@@ -118,6 +152,10 @@ usage() {
 usages() {
     holds "usage: card --help" usage "$ex/card" --help
     holds "usage: card, two arguments" usage "$ex/card" a b
+    holds "usage: card, two interfaces" usage "$ex/card" -contact -contactless
+    holds "usage: card, an interface that is none" usage "$ex/card" -air
+    holds "usage: card, an interface by number" usage "$ex/card" -1
+    holds "usage: card, the interface behind the key length" usage "$ex/card" -L16 -contactless
     holds "usage: reader" usage "$ex/reader"
     holds "usage: reader --help" usage "$ex/reader" --help
     holds "usage: reader, a mode of three digits" usage "$ex/reader" 007

@@ -20,7 +20,7 @@ static const uint8_t handles[PLAID_LIST_IDS] = {0x30, 0x31, 0x32, 0x33, 0x34, 0x
 static long exchange(void *line, const uint8_t *command, size_t command_len, uint8_t *answer, size_t answer_room)
 {
     card_reply reply;
-    card_serve(line, command, command_len, &reply);
+    card_serve(line, PLAID_INTERFACE_CONTACT, command, command_len, &reply);
     memcpy(answer, reply.bytes, reply.length < answer_room ? reply.length : answer_room);
     return (long)reply.length;
 }

@@ -24,9 +24,10 @@ watch_facts() { # NAME FILE
     holds "$1: hash blocks, 2 for L = 32" gives "1 1 1 2" "$(sed -n 's/^    hash blocks  *0  *//p' "$2" | paste -sd ' ')"
     holds "$1: what is declined for a length" gives "load:21 load:22 load:22 open:21 seal:21 seal:22 seal:22 seal:22 accept:21 accept:22" \
         "$(sed -n 's/^    plaid_\([a-z]*\) .* number \(2[0-9]\)$/\1:\2/p' "$2" | paste -sd ' ')"
+    tries_facts "$1" "$2"
     holds "$1: a door form with each record" gives "5 5" "$(echo $(grep -c '  handed back$' "$2") $(grep -c '^    door form   ' "$2"))"
     door_facts "$1" "$2"
-    holds "$1: five records" grep -q 'the final command had 70 and 86\. Five sessions gave a record\.$' "$2"
+    holds "$1: seven records" grep -q 'the final command had 70 and 86\. Seven sessions gave a record\.$' "$2"
     holds "$1: at most 80 columns" gives 0 "$(awk 'length > 80' "$2" | wc -l)"
     holds "$1: plain characters" gives 0 "$(LC_ALL=C grep -c '[^ -~]' "$2")"
 }
@@ -39,12 +40,25 @@ door_facts() { # NAME FILE
 wiegand_text:24 uuid_record:23 uuid_record:25 uuid_record:25 uuid_text:23" \
         "$(sed -n 's/^    plaid_\([a-z]*_[a-z]*\) .* number \(2[0-9]\)$/\1:\2/p' "$2" | paste -sd ' ')"
 }
+# Sessions on both interfaces. A card's refusal is counted, for the interface of its session; what the card accepts is not.
+tries_facts() { # NAME FILE
+    holds "$1: each session's interface" gives "contact:0 contactless:1 contactless:1 contact:0" \
+        "$(sed -n "s/^    interface   \([a-z]*\): the card's platform says \([0-9]\) in each call$/\1:\2/p" "$2" | paste -sd ' ')"
+    holds "$1: no failed try in a good session" gives 4 "$(grep -cx '    failed tries    contact 0, contactless 0    not sent' "$2")"
+    holds "$1: refused sessions come through the air" gives 8 "$(grep -cx '  as the key holder sees it, interface contactless' "$2")"
+    holds "$1: a card's refusal is counted" gives 7 "$(grep -cx '    card     has counted failed tries: contact 0, contactless 1' "$2")"
+    holds "$1: the reader's alone is not" gives "wrong record length" "$(refused_by 'has counted failed tries: contact 0, contactless 0' "$2")"
+    holds "$1: one card's counts" gives "accepts:0:0 refuses:0:1 refuses:0:2 refuses:1:2 refuses:1:3 accepts:1:3 26:1:3 reset:1:3" \
+        "$(awk '/^FAILED TRIES OF ONE CARD/ { on = NR + 1; next } on && /The other card/ { exit }
+            on && NR > on { printf "%s%s:%s:%s", between, $(NF - 2), $(NF - 1), $NF; between = " " }' "$2")"
+    holds "$1: the other card's counts" grep -qx '    refused too\. It has counted contact 2, contactless 4: no byte tells\.' "$2"
+}
 # The refused sessions that have such a line.
 refused_by() { awk -F ': ' -v text="$1" '/^REFUSED/ { last = $2 } index($0, text) { print last }' "$2"; }
 
 # The lines of a session; of such, the bytes of a field, those of the rows behind a heading, and those of message 1 field by field, as digits.
 # A field of over 16 bytes goes on in lines without a name.
-part() { awk -v from="^SESSION $1:" '/^(SESSION|REFUSED|DECLINED|DOOR)/ { on = $0 ~ from } on' "$2"; }
+part() { awk -v from="^SESSION $1:" '/^(SESSION|REFUSED|FAILED|DECLINED|DOOR)/ { on = $0 ~ from } on' "$2"; }
 field() {
     awk -v name="$1" '
         function bytes(text) { return text ~ /^([0-9A-F][0-9A-F]( |$))+/ }
