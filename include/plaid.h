@@ -118,10 +118,11 @@
  *   lasting memory. From one command to the next a card changes in `session`
  *   and `tries` alone. So the card that plaid_load returned, with `tries` as
  *   they were kept, is the card to start from.
- *   It writes them before the answer is sent: else a stranger who pulls the
- *   card early is not counted. It writes each time a final command ran,
- *   accepted or refused, whether or not a count has changed, and by the same
- *   steps: else the time of the write tells the two apart.
+ *   It writes them before the answer is sent, or 61 with T=0: else a stranger
+ *   who pulls the card early is not counted. It writes each time a final
+ *   command ran, accepted or refused, whether or not a count has changed, and
+ *   by the same steps: else the time of the write tells the two apart. The
+ *   memory has to bear as many writes as strangers send final commands.
  *
  *   T=1 and contactless cards carry a command and its answer whole, as
  *   plaid_command takes and gives them. T=0 does not; there the platforms map.
@@ -413,7 +414,8 @@ typedef struct plaid_tries {
 /*
  * A card. Only plaid_load makes one and only plaid_command changes one; read
  * its fields, but write none. The one exception is the start after a power
- * cycle or a reset, which closes the session: see "On the line".
+ * cycle or a reset, which closes the session and puts back counts that were
+ * kept elsewhere: see "On the line".
  */
 typedef struct plaid_card {
     plaid_key_set_slot sets[PLAID_CARD_KEY_SETS];

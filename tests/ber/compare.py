@@ -248,7 +248,7 @@ def by_card(conform, lists):
     """The card's readings, by one card and one call for each list."""
     sets = ",".join(f"{int.from_bytes(h, 'big')}:{i}:{i:032x}" for i, h in enumerate(HELD, 1))
     load = f"load l=16 sets={sets} modes=1:0:16 area={'00' * 16} div={'00' * 16} shill_key={'00' * 16} shill_handle=9"
-    calls = [f"call command=00870000{len(d):02x}{d.hex()}00 fresh={'01' * 253} out=256" for d in lists]
+    calls = [f"call interface=0 command=00870000{len(d):02x}{d.hex()}00 fresh={'01' * 253} out=256" for d in lists]
     ran = subprocess.run([conform], input="\n".join([load, *calls, ""]), stdout=subprocess.PIPE, text=True)
     said = ran.stdout.splitlines()[1:]
     if ran.returncode or len(said) != len(lists) or not all("=> number=0 status=36864 " in s for s in said):

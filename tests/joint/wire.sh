@@ -1,8 +1,9 @@
 # Sourced by tests/joint/run: what docs/STANDARD.md and include/plaid.h say of the line, as calls of the library. Keys, random
 # bytes and answers are the joint test's, taken before. says LABEL CALL RESULT: one such call, as 'label, tab, call => result'.
-says() { printf '%s\t%s => %s\n' "$1" "$2" "$3"; }
+# Each command is sent over the contacts, $interface 0, and through the air, 1, with the same result.
+says() { printf '%s\t%s => %s\n' "$1${interface:+, interface $interface}" "$2" "$3"; }
 lc() { printf '%02x' $((${#1} / 2)); }
-call() { printf 'call command=%s fresh=%s out=256' "$1" "$2"; }
+call() { printf 'call interface=%s command=%s fresh=%s out=256' "$interface" "$1" "$2"; }
 answered() { printf 'number=0 status=36864 length=%d handle=%d answer=%s session=%s' $((${#2} / 2)) "$1" "$2" "$3"; }
 
 # initial DATA: an initial command
@@ -117,8 +118,16 @@ taken() { echo "accept l=16 keyshash=$(of KeysHash) div=$(at DivData) reclen=$1 
 
 # As checks, for the calls above.
 wire_checks() {
-    local section=load
-    { printf 'load\t%s\n' "$(load_line)"; frame_lines; list_lines; unpadded_final; turns; answer_lines; length_lines; } >"$room/wire"
+    local section=load interface
+    for interface in 0 1; do
+        printf 'load\t%s\n' "$(load_line)"
+        frame_lines
+        list_lines
+        unpadded_final
+        turns
+    done >"$room/wire"
+    interface=
+    { answer_lines; length_lines; } >>"$room/wire"
     cut -f 2 "$room/wire" >"$room/want"
     given >"$room/got"
     paste -d '\t' <(sed 's/\t.*//; s/^/wire: /' "$room/wire") "$room/want" "$room/got"
