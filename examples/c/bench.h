@@ -53,7 +53,10 @@ bool bench_run(bench *b, size_t interface, size_t key_length, const example_mode
 /* The next session of the same cards. */
 bool bench_run_again(bench *b, size_t interface, const example_mode *mode, bench_fault fault);
 
-/* One with new cards over the contacts, nothing wrong, and the list of another maker's reader in the place of ours: the same KeySetIDs, other forms of length. */
+/*
+ * One with new cards over the contacts, nothing wrong, and the list of another maker's reader in the place of ours: the same KeySetIDs,
+ * other forms of length.
+ */
 bool bench_run_other_list(bench *b, size_t key_length, const example_mode *mode);
 
 /* What the library has to decline by 21 or 22, one call for each. */

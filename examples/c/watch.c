@@ -1,8 +1,9 @@
 /*
  * Sessions to watch: a card and a reader on the bench, for each of the card's two records, each message with its fields in words; one that
  * another maker's list opens; one with keys of 24 bytes, one with keys of 32; then one refused session of each kind, as a stranger sees it
- * and as the key holder sees it; a card's counts of failed tries; and what the library declines for its lengths. Each record stands in the door system's form too; at the
- * end such texts become the records again, and others are declined. Exit status 1 where something was not as expected.
+ * and as the key holder sees it; a card's counts of failed tries; and what the library declines for its lengths. Each record stands in the
+ * door system's form too; at the end such texts become the records again, and others are declined. Exit status 1 where something was not as
+ * expected.
  *
  *   watch [KEYS]      KEYS: the folder of RSA keys; none: the stand-in, which the output names
  */
@@ -550,7 +551,8 @@ static bool watch_door_declined(void)
 static bool watch_longer(bench *b, size_t key_length, const bench *good)
 {
     size_t interface = key_length == 24 ? PLAID_INTERFACE_CONTACTLESS : PLAID_INTERFACE_CONTACT;
-    return watch_good(b, interface, key_length, &example_wiegand) && b->initial.command_len == good->initial.command_len && answered_alike(b, good);
+    return watch_good(b, interface, key_length, &example_wiegand) && b->initial.command_len == good->initial.command_len
+        && answered_alike(b, good);
 }
 
 static bool watch_all(bench good[3])

@@ -3,8 +3,8 @@
  *
  * Results: each function is called with the result pointer given by hand, over two different fillings, so that the test sees which bytes
  * the library writes and reads each field where the header says it stands. Inputs: distinct values in each field, which have to arrive.
- * Constants: each is provoked, with the neighbour that is on the other side of it. Expected values come from the inputs, from document 01
- * and from NIST's vectors. All of it is run for each key length L, but for the door numbers, which have none: their values come from
+ * Constants: each is provoked, with the neighbour that is on the other side of it. Expected values come from the inputs, from documents 01
+ * and 02 and from NIST's vectors. All of it is run for each key length L, but for the door numbers, which have none: their values come from
  * document 02, RFC 4122 and C's own printing.
  *
  * The last line is 'N passed, M failed'.
@@ -1201,7 +1201,7 @@ static plaid_tries one_more(plaid_tries t, size_t interface)
     return t;
 }
 
-/* Calls, each with whether it is answered, and whether it is a final command that is refused. They begin with a card in session. */
+/* A call on a card in session or on one without, and whether it is a final command that is refused: the one kind that is counted. */
 typedef struct {
     const char *name;
     call_case call;
@@ -1321,13 +1321,13 @@ static void tries_counted(void)
                 check_try(of[i].in_session ? in_session : fresh_card, &of[i], interface, before[j]);
 }
 
-/* One card through all of them, again and again, each card from the call before: only what was refused is counted. A wrong interface is not. */
+/* One card through all of them, again and again, on both interfaces and before that on one that is none. */
 static void tries_of_a_list(void)
 {
     static try_case of[TRIES];
     load_case l = full_load();
     plaid_card card = load(&l).card;
-    size_t count = all_tries(&l, of), interface = 0;
+    size_t count = all_tries(&l, of);
     plaid_tries wanted = {0, 0};
     CHECK(tries_are(card, 0, 0));
     for (size_t i = 0; i < 9 * count; i++) {
@@ -1336,9 +1336,9 @@ static void tries_of_a_list(void)
         card = call(card, t->in_session ? &opening : &closing).card;
         c.interface = 2 + i;
         card = call(card, &c).card;
-        c.interface = interface = (i * i / 3 + i) % 2;
+        c.interface = (i * i / 3 + i) % 2;
         card = call(card, &c).card;
-        wanted = t->refused ? one_more(wanted, interface) : wanted;
+        wanted = t->refused ? one_more(wanted, c.interface) : wanted;
         CHECK(tries_are(card, wanted.contact, wanted.contactless));
     }
     CHECK(wanted.contact > 20 && wanted.contactless > 20 && wanted.contact != wanted.contactless);
