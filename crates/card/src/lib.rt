@@ -51,6 +51,7 @@ fn after_initial(r: Initial) -> Told
     ensures { λ o. ⌜ o ≡ afterInitial r ⌝ }
 {
     let session = r.session;
+    let refused = false;
     Told {
         answer: Answer {
             number: 0,
@@ -65,7 +66,7 @@ fn after_initial(r: Initial) -> Told
         },
         sum: r.sum,
         session: session,
-        refused: false,
+        refused: refused,
     }
 }
 
@@ -73,6 +74,7 @@ fn after_initial(r: Initial) -> Told
 fn after_final(r: Final) -> Told
     ensures { λ o. ⌜ o ≡ afterFinal r ⌝ }
 {
+    let accepted = r.accepted;
     Told {
         answer: Answer {
             number: 0,
@@ -87,7 +89,7 @@ fn after_final(r: Final) -> Told
         },
         sum: r.sum,
         session: Session::none(),
-        refused: !r.accepted,
+        refused: !accepted,
     }
 }
 
@@ -143,5 +145,6 @@ pub fn command(card: Card, interface: usize, cmd: &[u8], fresh: &[u8], out: &mut
 pub fn read_tries(card: Card) -> Tries
     ensures { λ r. ⌜ r ≡ card .tries ⌝ }
 {
-    card.tries
+    let tries = card.tries;
+    tries
 }

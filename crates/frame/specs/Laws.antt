@@ -5,7 +5,7 @@ use mathlib.Core.Bool.{Bool, true, false, cond, _&&_, and-eq-true-iff, and-true}
 use mathlib.Core.List.{List, _++_}
 use Prim.Native.Nat.{ℕ, _+_, _-_, _<_, _≤_}
 use native.Mathlib.Omega.{arith}
-use borrow.Author.Tests.{eqb-true, ltb-true, ltb-false, eq-eqb, lt-ltb}
+use borrow.Author.Tests.{eqb-true, ltb-true, ltb-false, eq-eqb, lt-ltb, le-ltb}
 use lib.Dec.{eqb, ltb}
 use lib.ListN.{length, getD, List·getD-append, drop, length-drop, drop-of-length-le}
 use lib.Seq.{getD-append-add}
@@ -111,6 +111,31 @@ pub faultless : (n : ℕ) (f : List ℕ) → statusOf n f ≡ 0x9000 → Faultle
 unfolding statusOf
 faultless n f q =
     faultless-by n f (ltb n 4) (eqb (claOf f) 0) (knownIns (insOf f)) (eqb (p1Of f) 0 && eqb (p2Of f) 0) (whole n f) refl refl refl refl refl q
+
+-- the verdict, by the tests that led there
+module _ (i l n : ℕ) (f fresh : List ℕ) (room : ℕ) where
+  pub says-26 : isInterface i ≡ false → record { number = 26; status = 0 } ≡ verdict i l n f fresh room
+  unfolding verdict
+  says-26 a = rw a
+
+  module _ (a : isInterface i ≡ true) where
+    pub says-8 : eqb (length fresh) 253 ≡ false → record { number = 8; status = 0 } ≡ verdict i l n f fresh room
+    unfolding verdict
+    says-8 b = rw (a, b)
+
+    module _ (b : eqb (length fresh) 253 ≡ true) where
+      pub says-9 : noZero (padBytes l fresh) ≡ false → record { number = 9; status = 0 } ≡ verdict i l n f fresh room
+      unfolding verdict
+      says-9 c = rw (a, b, c)
+
+      module _ (c : noZero (padBytes l fresh) ≡ true) where
+        pub says-10 : room < 256 → record { number = 10; status = 0 } ≡ verdict i l n f fresh room
+        unfolding verdict
+        says-10 h = rw (a, b, c, lt-ltb room 256 h)
+
+        pub says-status : 256 ≤ room → (s : ℕ) → s ≡ statusOf n f → record { number = 0; status = s } ≡ verdict i l n f fresh room
+        unfolding verdict
+        says-status h s e = rw (a, b, c, le-ltb room 256 h, e)
 
 -- what a call has shown that is not declined
 pub record Passed (i l n : ℕ) (f fresh : List ℕ) (room : ℕ) : Type 0 where

@@ -10,7 +10,7 @@ none-requires : tie.Need-none-requires
 none-requires c κs = search needs
 
 returns : tie.Need-returns
-returns c = let o = afterFinal (c .before .before .args .r) in ap (λ (s : Session). record { answer = o .answer; sum = o .sum; session = s; refused = o .refused }) (c .before .none .ensures)
+returns c = let o = afterFinal (c .before .args .r) in ap (λ (s : Session). record { answer = o .answer; sum = o .sum; session = s; refused = o .refused }) (c .none .ensures)
 
 pub after-final-spec : {M : Type 1} → statement M
 after-final-spec = tie.close (tie.spec none-requires returns)
