@@ -253,7 +253,7 @@ typedef char plaid_size_is_64_bits[sizeof(size_t) == 8 ? 1 : -1];
  * of calls. It is the greater of the two, in whole sixteens.
  */
 #define PLAID_STACK_LOAD 5776
-#define PLAID_STACK_COMMAND 9232
+#define PLAID_STACK_COMMAND 9264
 #define PLAID_STACK_READ_TRIES 1840
 #define PLAID_STACK_LIST 96
 #define PLAID_STACK_OPEN 208

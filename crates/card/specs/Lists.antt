@@ -1,6 +1,6 @@
 -- Document 01, "Lists of commands", with T-04 and T-06 of document 02.
 use mathlib.Core.Bool.{Bool, false, cond, _&&_, not}
-use mathlib.Core.List.{List, [], _∷_}
+use mathlib.Core.List.{List, [], _∷_, map}
 use mathlib.Core.Path.{_≡_}
 use Prim.Native.Nat.{ℕ, _+_, _*_, _/_}
 use lib.Dec.{eqb, ltb}
@@ -12,7 +12,7 @@ use Rattle.frame.specs.declared.Verdict.{Verdict}
 use Rattle.initial.specs.Initial.{acceptsInitial, initialReply}
 use Rattle.final_command.specs.Final.{acceptsFinal}
 use Rattle.plaid_types.specs.Keys.{keyLengthOf}
-use Rattle.plaid_types.specs.Cards.{noSession, withSession}
+use Rattle.plaid_types.specs.Cards.{noSession, withSession, withTries}
 use Rattle.plaid_types.specs.declared.Session.{Session}
 use Rattle.plaid_types.specs.declared.Card.{Card}
 use Rattle.plaid_types.specs.declared.Answer.{Answer}
@@ -157,11 +157,6 @@ unfoldable pub refusals : ℕ → Card → List Call → ℕ
 refusals j c [] = 0
 refusals j c (x ∷ xs) = cond (refusedFinal c x && eqb (x .interface) j) 1 0 + refusals j (outcomeOf c x .card) xs
 
--- the answer bytes at each place of a list
-unfoldable pub bytesOfAll : Card → List Call → List (List ℕ)
-bytesOfAll c [] = []
-bytesOfAll c (x ∷ xs) = bytesOf c x ∷ bytesOfAll (outcomeOf c x .card) xs
-
 -- the same answer bytes and key handle
 pub record SameAnswer (c e : Card) (x y : Call) : Type 0 where
   pub bytes : bytesOf c x ≡ bytesOf e y
@@ -173,3 +168,19 @@ Indistinct c e [] ys = Unit
 Indistinct c e (x ∷ xs) [] = Unit
 Indistinct c e (x ∷ xs) (y ∷ ys) =
     (accepted c x ≡ false → accepted e y ≡ false → SameAnswer c e x y) × Indistinct (outcomeOf c x .card) (outcomeOf e y .card) xs ys
+
+-- the answer bytes at each place of a list
+unfoldable pub bytesOfAll : Card → List Call → List (List ℕ)
+bytesOfAll c [] = []
+bytesOfAll c (x ∷ xs) = bytesOf c x ∷ bytesOfAll (outcomeOf c x .card) xs
+
+-- the card m with other tries
+abbrev pub ButTries : Card → Card → Type 0
+ButTries k m = k ≡ withTries m (k .tries)
+
+-- what is alike of a list of calls on two cards: all of each answer, its bytes and its work sum; and the cards afterwards, but for their tries
+pub record Unseen (k m : Card) (xs : List Call) : Type 0 where
+  pub answers : map (λ o. o .answer) (run k xs) ≡ map (λ o. o .answer) (run m xs)
+  pub bytes : bytesOfAll k xs ≡ bytesOfAll m xs
+  pub sums : map (λ o. o .sum) (run k xs) ≡ map (λ o. o .sum) (run m xs)
+  pub cards : ButTries (cardAfter k xs) (cardAfter m xs)

@@ -23,7 +23,7 @@ use Rattle.final_command.specs.Final.{acceptsFinal}
 use Rattle.card.specs.Command.{replyTo, refusesFinal, told, declined, done, undone, verdictOn, outcome, answerBytes}
 use Rattle.card.specs.After.{refusedTry}
 use Rattle.card.specs.Unseen.{reply-unseen}
-use Rattle.card.specs.Lists.{Call, outcomeOf, bytesOf, run, cardAfter, isInitial, accepted, refusedFinal, refusals, bytesOfAll}
+use Rattle.card.specs.Lists.{Call, outcomeOf, bytesOf, run, cardAfter, isInitial, accepted, refusedFinal, refusals, bytesOfAll, ButTries, Unseen}
 use Rattle.card.specs.Demand3.{card-kept}
 
 -- neither declined nor accepted, of a final command, is what the card counts
@@ -77,17 +77,6 @@ list-tries j h c m (x ∷ xs) =
     list-tries j h (outcomeOf c x .card) (subst (λ (k : ℕ). k ≤ 65535) (sym e) (count-most t n m)) xs
     ∙ ap (λ (k : ℕ). holding (k + refusals j (outcomeOf c x .card) xs)) e
     ∙ count-more t n (refusals j (outcomeOf c x .card) xs)
-
--- the card m with other tries
-abbrev pub ButTries : Card → Card → Type 0
-ButTries k m = k ≡ withTries m (k .tries)
-
--- what is alike of a list of calls on two cards: all of each answer, its bytes and its work sum; and the cards afterwards, but for their tries
-pub record Unseen (k m : Card) (xs : List Call) : Type 0 where
-  pub answers : map (λ o. o .answer) (run k xs) ≡ map (λ o. o .answer) (run m xs)
-  pub bytes : bytesOfAll k xs ≡ bytesOfAll m xs
-  pub sums : map (λ o. o .sum) (run k xs) ≡ map (λ o. o .sum) (run m xs)
-  pub cards : ButTries (cardAfter k xs) (cardAfter m xs)
 
 -- of an outcome, what is sent and summed, by L and the reply
 module _ (x : Call) where

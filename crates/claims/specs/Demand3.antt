@@ -6,18 +6,13 @@ use mathlib.Core.Path.{_≡_}
 use mathlib.Core.List.{List, _∷_, _++_, map}
 use lib.ListN.{length, getD}
 use Rattle.work.specs.Steps.{workSum}
-use Rattle.plaid_types.specs.Cards.{noSession, withTries}
+use Rattle.plaid_types.specs.Cards.{noSession}
 use Rattle.plaid_types.specs.declared.Tries.{Tries}
-use Rattle.plaid_types.specs.declared.Card.{Card}
 use Rattle.plaid_types.specs.declared.Outcome.{Outcome}
 use Rattle.card.specs.Lists.{Call, Shape, run, sessionAfter, stepsOf, shapeOf, formulasOf, Agree, AllAlike, Indistinct}
-use Rattle.claims.specs.Load.{Load, cardOf}
+use Rattle.claims.specs.Load.{Load, cardOf, cardWith}
 
--- T-06: the card that a load returned, with the failed tries t
-abbrev pub cardWith : Load → Tries → Card
-cardWith l t = withTries (cardOf l) t
-
--- number, status, counts and answer length at each place of a list of commands on it
+-- number, status, counts and answer length at each place of a list of commands on the card that a load returned, with the failed tries t
 abbrev pub shapes : Load → Tries → List Call → List Shape
 shapes l t xs = map (λ o. shapeOf (o .answer)) (run (cardWith l t) xs)
 

@@ -8,9 +8,9 @@ use Rattle.plaid_types.specs.declared.Tries.{Tries}
 use Rattle.plaid_types.specs.declared.Outcome.{Outcome}
 use Rattle.card.specs.Lists.{cardAfter, sessionAfter, stepsOf, formulasOf, Agree}
 use Rattle.card.specs.Demand3.{Sound, list-formulas, place, call-sum, after-loaded, session-after, lists-alike, lists-indistinct}
-use Rattle.claims.specs.Load.{Load, cardOf}
+use Rattle.claims.specs.Load.{Load, cardOf, cardWith}
 use Rattle.claims.specs.Loaded.{is-a-load, sound, length-is}
-use Rattle.claims.specs.Demand3.{cardWith, Demand3Claim}
+use Rattle.claims.specs.Demand3.{Demand3Claim}
 
 sound-with : (l : Load) (t : Tries) → Sound (cardWith l t)
 sound-with l t =

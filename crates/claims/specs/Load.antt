@@ -5,8 +5,10 @@ use Prim.Native.Nat.{ℕ, _<_}
 use lib.ListN.{length, getD}
 use Rattle.octets.specs.Bytes.{Bytes, Block}
 use Rattle.octets.specs.Lists.{part}
+use Rattle.plaid_types.specs.Cards.{withTries}
 use Rattle.plaid_types.specs.declared.Value.{Value}
 use Rattle.plaid_types.specs.declared.KeySet.{KeySet}
+use Rattle.plaid_types.specs.declared.Tries.{Tries}
 use Rattle.plaid_types.specs.declared.Card.{Card}
 use Rattle.load.specs.Load.{pastSet, pastMode}
 use Rattle.final_command.specs.Final.{bodyOf}
@@ -38,6 +40,10 @@ pub record Load : Type 0 where
 -- the card that it returned
 abbrev pub cardOf : Load → Card
 cardOf l = loadOf (l .sets) (l .given) (l .area) .card
+
+-- T-06: the same card with the failed tries t
+abbrev pub cardWith : Load → Tries → Card
+cardWith l t = withTries (cardOf l) t
 
 -- the record of its mode number i, counted from 0: "start and length in a record area"
 abbrev pub recordGiven : Load → ℕ → List ℕ

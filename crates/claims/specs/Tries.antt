@@ -6,10 +6,8 @@ use mathlib.Core.List.{List}
 use Prim.Native.Nat.{ℕ}
 use Rattle.plaid_types.specs.Tries.{isInterface, noTries, holding, triesOn}
 use Rattle.plaid_types.specs.declared.Tries.{Tries}
-use Rattle.card.specs.Lists.{Call, outcomeOf, cardAfter, refusals}
-use Rattle.card.specs.Tried.{Unseen}
-use Rattle.claims.specs.Load.{Load, cardOf}
-use Rattle.claims.specs.Demand3.{cardWith}
+use Rattle.card.specs.Lists.{Call, outcomeOf, cardAfter, refusals, Unseen}
+use Rattle.claims.specs.Load.{Load, cardOf, cardWith}
 
 pub record FailedTries (l : Load) : Type 0 where
   -- "from 0 on a new card"

@@ -7,9 +7,8 @@ use Rattle.plaid_types.specs.Tries.{isInterface, noTries, holding, triesOn}
 use Rattle.plaid_types.specs.TriesLaws.{each-interface}
 use Rattle.card.specs.Lists.{cardAfter, refusals}
 use Rattle.card.specs.Tried.{list-tries, list-unseen, other-kept}
-use Rattle.claims.specs.Load.{cardOf}
+use Rattle.claims.specs.Load.{cardOf, cardWith}
 use Rattle.claims.specs.Loaded.{is-a-load}
-use Rattle.claims.specs.Demand3.{cardWith}
 use Rattle.claims.specs.Tries.{FailedTriesClaim}
 
 pub failed-tries : FailedTriesClaim

@@ -133,7 +133,8 @@ pub extern "C" fn plaid_command(
 pub extern "C" fn plaid_read_tries(card: Card) -> Tries
     ensures { λ r. ⌜ r ≡ card .tries ⌝ }
 {
-    card::read_tries(card)
+    let tries = card::read_tries(card);
+    tries
 }
 
 // The reader's KeySetIDs in order of preference: the first so many.
