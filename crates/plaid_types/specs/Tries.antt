@@ -19,7 +19,7 @@ isInterface i = eqb i contact || eqb i contactless
 abbrev pub noTries : Tries
 noTries = record { contact = 0; contactless = 0 }
 
--- "and holds at 65,535": what is shown for n
+-- "and holds at 65,535": n, or 65,535 where it is more
 unfoldable pub holding : ℕ → ℕ
 holding n = cond (ltb n 65535) n 65535
 
