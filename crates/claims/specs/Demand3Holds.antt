@@ -9,13 +9,11 @@ use Rattle.plaid_types.specs.declared.Outcome.{Outcome}
 use Rattle.card.specs.Lists.{cardAfter, sessionAfter, stepsOf, formulasOf, Agree}
 use Rattle.card.specs.Demand3.{Sound, list-formulas, place, call-sum, after-loaded, session-after, lists-alike, lists-indistinct}
 use Rattle.claims.specs.Load.{Load, cardOf, cardWith}
-use Rattle.claims.specs.Loaded.{is-a-load, sound, length-is}
+use Rattle.claims.specs.Loaded.{is-a-load, sound, sound-state, length-is}
 use Rattle.claims.specs.Demand3.{Demand3Claim}
 
 sound-with : (l : Load) (t : Tries) → Sound (cardWith l t)
-sound-with l t =
-    let k = sound l in
-    record { sets = k .sets; modes = k .modes; div = k .div; stored = record { sets = k .stored .sets; shill = k .stored .shill; rnd1 = k .stored .rnd1 }; size = k .size }
+sound-with l t = sound-state l (cardOf l .session) t (sound l .stored .rnd1)
 
 agree-with : (l m : Load) (t u : Tries) → Agree (cardOf l) (cardOf m) → Agree (cardWith l t) (cardWith m u)
 agree-with l m t u g = record { keyLengths = g .keyLengths; key = g .key; handle = g .handle; size = g .size }

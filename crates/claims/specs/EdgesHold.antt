@@ -40,7 +40,7 @@ use Rattle.initial.specs.Initial.{firstSlot, firstPlace, slotOf, acceptsInitial
 use Rattle.final_command.specs.Final.{textOf, decipheredText, keysHash, modeOf, accepting, acceptsFinal, bodyOf, finalReply}
 use Rattle.card.specs.Command.{replyTo, refusesFinal, verdictOn, outcome, answerBytes}
 use Rattle.card.specs.Lists.{Call, outcomeOf, bytesOf, run, accepted, Shape, shapeOf, initialShape, finalShape, formulas}
-use Rattle.card.specs.Demand3.{Sound, list-formulas}
+use Rattle.card.specs.Demand3.{list-formulas}
 use Rattle.reader_seal.specs.Seal.{lcOf as lcFor, payloadMost, finalCommand, sealCommand, sealNumber, sealedOf, sealOutput}
 use Rattle.reader_seal.specs.Laws.{length-sealCommand, seal-done, seal-written}
 use Rattle.reader_seal.specs.declared.Sealed.{Sealed}
@@ -49,7 +49,7 @@ use Rattle.plaid.specs.Interface.{loadOf}
 use Rattle.session_final.specs.Reply.{refused-reply}
 use Rattle.session_final.specs.Accepts.{SixConditions, six-conditions}
 use Rattle.claims.specs.Load.{Load, cardOf, recordGiven, bodyGiven}
-use Rattle.claims.specs.Loaded.{is-a-load, sound, set-slot, slot-given, sets-most, mode-slot, record-long, size-given, div-given, handle-given, length-is, shill-held}
+use Rattle.claims.specs.Loaded.{is-a-load, sound-state, set-slot, slot-given, sets-most, mode-slot, record-long, size-given, div-given, handle-given, length-is, shill-held}
 use Rattle.claims.specs.Loads.{set, mode, given, area, load-of, load-one, one-key, two-keys}
 use Rattle.claims.specs.Reply.{left, named-answer}
 use Rattle.claims.specs.Found.{held-there}
@@ -58,10 +58,6 @@ use Rattle.claims.specs.Edges.{Of, OfAll, Gave, framed, Lent, inState, E
 -- a KeySetID by its number
 abbrev idOf : ℕ → KeySetId
 idOf k = record { 0 = k }
-
--- the load's card in any state
-sound-in : (l : Load) (s : Session) (u : Tries) → length (s .rnd1) ≡ 32 → Sound (inState l s u)
-sound-in l s u r = let k = sound l in record { sets = k .sets; modes = k .modes; div = k .div; stored = record { sets = k .stored .sets; shill = k .stored .shill; rnd1 = r }; size = k .size }
 
 -- loads with the properties of the edges: set 1, with one record, for keys of k bytes, or with two
 one-record : (k n : ℕ) → keyLength k ≡ true → 0 < n → n ≤ 64 → (l : Load) × ((lengths l ≡ n ∷ []) × Gave l 0 1 × (l .given .«key_length» ≡ k))
@@ -156,7 +152,7 @@ module _ (l : Load) (ins : ℕ) (d : List ℕ) (f : Frames ins d) (s : Session) 
 
   call-shape : shapeOf (outcomeOf c x .answer) ≡ cond (eqb ins initialIns) (initialShape (length d)) (finalShape (keyLengthOf c) (c .«reply_size») (length d))
   unfolding run formulas
-  call-shape = ap (λ (y : List Shape). getD y 0 (shapeOf (outcomeOf c x .answer))) (list-formulas (x ∷ []) c (sound-in l s u lr)) ∙ rw (taken, ins-is, lc-is)
+  call-shape = ap (λ (y : List Shape). getD y 0 (shapeOf (outcomeOf c x .answer))) (list-formulas (x ∷ []) c (sound-state l s u lr)) ∙ rw (taken, ins-is, lc-is)
 
   call-accepted : accepted c x ≡ cond (eqb ins initialIns) (acceptsInitial c d) (acceptsFinal c d)
   unfolding accepted

@@ -18,7 +18,9 @@ use Rattle.plaid_types.specs.declared.Value.{Value}
 use Rattle.plaid_types.specs.declared.KeySet.{KeySet}
 use Rattle.plaid_types.specs.declared.KeySetSlot.{KeySetSlot}
 use Rattle.plaid_types.specs.declared.Mode.{Mode}
+use Rattle.plaid_types.specs.Cards.{withSession, withTries}
 use Rattle.plaid_types.specs.declared.Session.{Session}
+use Rattle.plaid_types.specs.declared.Tries.{Tries}
 use Rattle.plaid_types.specs.declared.Card.{Card}
 use Rattle.load.specs.Load.{pastSet, pastMode, refusal, badRecord, largestSize, filled, setSlot, modeSlot, loadedCard}
 use Rattle.load.specs.Laws.{neither, some-none, Accepted, accepted, setAt, modeAt, set-held, mode-held, set-given, mode-given, IsLoaded, is-loaded, load-made, load-number, stocked-length, set-right, key-kept}
@@ -144,6 +146,12 @@ module _ (l : Load) where
         stored = record { sets = k .stocked .fa-long; shill = k .stocked .key-long; rnd1 = ap (λ (s : Session). length (s .rnd1)) (k .no-session) };
         size = k .stocked .size-most;
       }
+
+  -- and in any state
+  pub sound-state : (s : Session) (t : Tries) → length (s .rnd1) ≡ 32 → Sound (withTries (withSession (cardOf l) s) t)
+  sound-state s t r =
+      let k = sound in
+      record { sets = k .sets; modes = k .modes; div = k .div; stored = record { sets = k .stored .sets; shill = k .stored .shill; rnd1 = r }; size = k .size }
 
   -- T-01: "B becomes the largest that any record needs"
   pub size-given : cardOf l .«reply_size» ≡ largestSize (take (l .given .«mode_count») (l .given .modes))

@@ -1,7 +1,7 @@
 -- Document 02, T-06: failed tries for each interface.
 use mathlib.Core.Bool.{Bool, cond, _&&_, _||_}
-use Prim.Native.Nat.{ℕ, _+_}
-use lib.Dec.{eqb, ltb}
+use Prim.Native.Nat.{ℕ, _+_, min}
+use lib.Dec.{eqb}
 use Rattle.plaid_types.specs.declared.Tries.{Tries}
 
 -- "Each command call names its interface, contact (0) or contactless (1)"
@@ -21,7 +21,7 @@ noTries = record { contact = 0; contactless = 0 }
 
 -- "and holds at 65,535": n, or 65,535 where it is more
 unfoldable pub holding : ℕ → ℕ
-holding n = cond (ltb n 65535) n 65535
+holding n = min n 65535
 
 abbrev pub oneMore : ℕ → ℕ
 oneMore n = holding (n + 1)

@@ -1,42 +1,29 @@
 -- Laws of the failed tries: a count that holds at its most, and each count by its own interface. Assumes nothing.
-use mathlib.Core.Path.{_≡_, refl, sym, ap, _∙_, subst}
+use mathlib.Core.Path.{_≡_, refl, sym, subst}
 use mathlib.Core.Bool.{Bool, true, false, cond, _&&_, _||_}
 use Prim.Native.Nat.{ℕ, _+_, _≤_}
 use native.Mathlib.Omega.{arith}
-use lib.Dec.{eqb, ltb}
-use borrow.Author.Tests.{le-ltb, ltb-true, ltb-false, eqb-true}
+use lib.Dec.{eqb}
+use borrow.Author.Tests.{eqb-true}
 use Rattle.plaid_types.specs.Tries.{isInterface, holding, oneMore, triesAfter, triesOn}
 use Rattle.plaid_types.specs.declared.Tries.{Tries}
 
 pub holding-small : (n : ℕ) → n ≤ 65535 → holding n ≡ n
 unfolding holding
-holding-small n h = by (ltb n 65535) refl
-  where
-    by : (t : Bool) → ltb n 65535 ≡ t → cond t n 65535 ≡ n
-    by true e = refl
-    by false e = omega (arith, ltb-false n 65535 e)
+holding-small n h = omega arith
 
 pub holding-large : (n : ℕ) → 65535 ≤ n → holding n ≡ 65535
 unfolding holding
-holding-large n h = ap (λ (t : Bool). cond t n 65535) (le-ltb n 65535 h)
+holding-large n h = omega arith
 
 pub holding-most : (n : ℕ) → holding n ≤ 65535
 unfolding holding
-holding-most n = by (ltb n 65535) refl
-  where
-    by : (t : Bool) → ltb n 65535 ≡ t → cond t n 65535 ≤ 65535
-    by true e = omega (arith, ltb-true n 65535 e)
-    by false e = omega arith
+holding-most n = omega arith
 
 -- what was held and then counted on is held all the same
 pub holding-more : (n m : ℕ) → holding (holding n + m) ≡ holding (n + m)
-holding-more n m = by (ltb n 65535) refl
-  where
-    by : (t : Bool) → ltb n 65535 ≡ t → holding (holding n + m) ≡ holding (n + m)
-    by true e = ap (λ (k : ℕ). holding (k + m)) (holding-small n (omega (arith, ltb-true n 65535 e)))
-    by false e =
-        let h : 65535 ≤ n = ltb-false n 65535 e in
-        holding-large (holding n + m) (omega (arith, holding-large n h)) ∙ sym (holding-large (n + m) (omega arith))
+unfolding holding
+holding-more n m = omega arith
 
 -- what holds of the two holds of an interface
 pub each-interface : (P : ℕ → Type 0) → P 0 → P 1 → (j : ℕ) → isInterface j ≡ true → P j
