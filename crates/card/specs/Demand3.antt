@@ -1,8 +1,9 @@
--- Demand 3, for every list of commands: at each place the formulas, the work sum of the steps that load, session and call give, and
+-- Demand 3, for every list of commands and loads of key sets: at each place the formulas, the work sum of the steps that load, session and call give, and
 -- what two lists on two cards have alike. Assumes nothing.
 use mathlib.Core.Path.{_≡_, refl, sym, ap, ap₂, _∙_}
 use mathlib.Core.Bool.{Bool, true, false, cond, _&&_, not}
 use mathlib.Core.List.{List, [], _∷_, _++_, map}
+use mathlib.Core.Option.{Option, some as answered, Option·map}
 use Prim.Native.Nat.{ℕ, suc, _*_, _/_, _≤_}
 use native.Mathlib.Omega.{arith}
 use lib.Dec.{eqb}
@@ -14,7 +15,7 @@ use Rattle.frame.specs.Frame.{frameOf, insOf, lcOf, initialIns, dataOf}
 use Rattle.frame.specs.Laws.{passed, data-long}
 use Rattle.frame.specs.declared.Verdict.{Verdict}
 use Rattle.initial.specs.Initial.{initialSteps, slotOf, acceptsInitial, refusedInitial, initialReply, blockOf}
-use Rattle.initial.specs.Laws.{initial-counted, initial-length, initial-rnd1}
+use Rattle.initial.specs.Laws.{initial-counted, initial-length, initial-rnd1, initial-key}
 use Rattle.octets.specs.Lists.{part, over}
 use Rattle.aes.specs.Aes.{aesUnder}
 use Rattle.cbc.specs.Cbc.{encrypted, zeros}
@@ -22,19 +23,25 @@ use Rattle.final_command.specs.Final.{sizeOf, acceptsFinal, replyKey, replyText
 use Rattle.final_command.specs.Laws.{Stored, final-length, final-comparisons, final-decipherments, final-encipherments, final-expansions, final-hash-blocks, size-loaded}
 use Rattle.plaid_types.specs.Keys.{keyLengthOf, held, str1Length}
 use Rattle.plaid_types.specs.Tries.{triesAfter}
-use Rattle.plaid_types.specs.Cards.{noSession, withSession, withTries, Reply}
+use Rattle.plaid_types.specs.Cards.{noSession, noSet, withSession, withTries, withSets, Reply}
 use Rattle.plaid_types.specs.declared.Session.{Session}
 use Rattle.plaid_types.specs.declared.Tries.{Tries}
 use Rattle.plaid_types.specs.declared.Card.{Card}
 use Rattle.plaid_types.specs.declared.Outcome.{Outcome}
+use Rattle.plaid_types.specs.declared.KeySet.{KeySet}
+use Rattle.load.specs.Load.{tableOf}
+use Rattle.key_change.specs.KeyChange.{setsLoaded, takesSets}
+use Rattle.key_change.specs.Laws.{after-by, only-table, in-state, new-table}
 use Rattle.card.specs.Command.{replyTo, refusesFinal, told, done, undone, verdictOn, outcome, answerBytes}
 use Rattle.card.specs.After.{refusedTry}
 use Rattle.card.specs.Unseen.{reply-unseen}
-use Rattle.card.specs.Lists.{Call, outcomeOf, bytesOf, run, cardAfter, isDeclined, isInitial, nextSession, sessionAfter, stepsOf, Shape, shapeOf, initialShape, finalShape, declineShape, formulas, formulasOf, Alike, AllAlike, none, more, Agree, accepted, SameAnswer, Indistinct}
+use Rattle.card.specs.Lists.{Call, outcomeOf, bytesOf, Place, command, keySets, outcomeAt, next, run, cardAfter, isDeclined, isInitial, nextSession, loadAt, sessionAt, loadAfter, sessionAfter, stepsOf, stepsAt}
+use Rattle.card.specs.Lists.{Shape, shapeOf, initialShape, finalShape, declineShape, formulas, formulasOf, formulasAt, Alike, AlikeAt, calls, loads, AllAlike, none, more, Agree, accepted, SameAnswer, SameAt, Indistinct}
 
--- what the theorems ask of a card: what a load and every call leave true of it
+-- what the theorems ask of a card: what a load, every call and every load of key sets leave true of it
 pub record Sound (c : Card) : Type 0 where
   pub sets : length (c .sets) ≡ 8
+  pub keys : (i : ℕ) → length (getD (c .sets) i noSet .«fa_key») ≡ 32
   pub modes : length (c .modes) ≡ 16
   pub div : length (c .«div_data») ≡ 16
   pub stored : Stored c
@@ -112,36 +119,74 @@ module _ (c : Card) (i : ℕ) (cmd fresh : List ℕ) (room : ℕ) where
   unfolding outcome tries refusedTry
   card-kept = card-cases (eqb (verdictOn i (keyLengthOf c) cmd fresh room .status) 0x9000)
 
-  reply-rnd1 : (t : Bool) → length fresh ≡ 253 → length (cond t (initialReply c (dataOf cmd) fresh) (finalReply c (dataOf cmd) fresh) .session .rnd1) ≡ 32
-  unfolding finalReply
-  reply-rnd1 true lf = initial-rnd1 c (dataOf cmd) fresh lf
-  reply-rnd1 false lf = refl
+  -- RND1 and FAKey of the session are held in 32 bytes each
+  Held : Session → Type 0
+  Held s = (length (s .rnd1) ≡ 32) × (length (s .«fa_key») ≡ 32)
 
-  next-rnd1 : (t : Bool) → eqb (verdictOn i (keyLengthOf c) cmd fresh room .status) 0x9000 ≡ t → length (c .session .rnd1) ≡ 32 → length (cond t (replyTo c cmd fresh .session) (c .session) .rnd1) ≡ 32
-  unfolding replyTo
-  next-rnd1 true e h = reply-rnd1 (eqb (insOf (frameOf cmd)) initialIns) (passed i (keyLengthOf c) (length cmd) (frameOf cmd) fresh room (eqb-true _ _ e) .fresh-long)
-  next-rnd1 false e h = h
+  reply-held : (t : Bool) → Sound c → length fresh ≡ 253 → Held (cond t (initialReply c (dataOf cmd) fresh) (finalReply c (dataOf cmd) fresh) .session)
+  unfolding finalReply Held
+  reply-held true s lf = (initial-rnd1 c (dataOf cmd) fresh lf, initial-key c (dataOf cmd) fresh (s .keys))
+  reply-held false s lf = (refl, refl)
+
+  next-held : (t : Bool) → eqb (verdictOn i (keyLengthOf c) cmd fresh room .status) 0x9000 ≡ t → Sound c → Held (cond t (replyTo c cmd fresh .session) (c .session))
+  unfolding replyTo Held
+  next-held true e s = reply-held (eqb (insOf (frameOf cmd)) initialIns) s (passed i (keyLengthOf c) (length cmd) (frameOf cmd) fresh room (eqb-true _ _ e) .fresh-long)
+  next-held false e s = (s .stored .rnd1, s .stored .key)
 
   sound-kept : Sound c → Sound (outcome c i cmd fresh room .card)
+  unfolding Held
   sound-kept s =
+      let h = next-held (eqb (verdictOn i (keyLengthOf c) cmd fresh room .status) 0x9000) refl s in
       rw card-kept
       (record {
         sets = s .sets;
+        keys = s .keys;
         modes = s .modes;
         div = s .div;
-        stored = record { sets = s .stored .sets; shill = s .stored .shill; rnd1 = next-rnd1 (eqb (verdictOn i (keyLengthOf c) cmd fresh room .status) 0x9000) refl (s .stored .rnd1) };
+        stored = record { shill = s .stored .shill; rnd1 = h .0; key = h .1 };
         size = s .size;
       })
 
+-- T-07: and a load of key sets
+sound-sets : (c : Card) (sets : List KeySet) → Sound c → Sound (setsLoaded c sets .card)
+sound-sets c sets s = after-by (λ (k : Card). Sound k) c sets by s
+  where
+    by : takesSets c sets ≡ true → Sound (withSets c (tableOf sets))
+    by e =
+        let t = new-table c sets e in
+        record {
+          sets = t .sets-long;
+          keys = t .fa-long;
+          modes = s .modes;
+          div = s .div;
+          stored = record { shill = s .stored .shill; rnd1 = s .stored .rnd1; key = s .stored .key };
+          size = s .size;
+        }
+
+-- a place keeps what the theorems ask of a card, and L and reply size
+sound-next : (c : Card) (p : Place) → Sound c → Sound (next c p)
+sound-next c (command x) s = sound-kept c (x .interface) (x .command) (x .fresh) (x .room) s
+sound-next c (keySets k) s = sound-sets c k s
+
+length-kept : (c : Card) (p : Place) → keyLengthOf (next c p) ≡ keyLengthOf c
+length-kept c (command x) = ap keyLengthOf (card-kept c (x .interface) (x .command) (x .fresh) (x .room))
+length-kept c (keySets k) = ap keyLengthOf (only-table c k)
+
+size-kept : (c : Card) (p : Place) → next c p .«reply_size» ≡ c .«reply_size»
+size-kept c (command x) = ap (λ (e : Card). e .«reply_size») (card-kept c (x .interface) (x .command) (x .fresh) (x .room))
+size-kept c (keySets k) = ap (λ (e : Card). e .«reply_size») (only-table c k)
+
+place-shape : (c : Card) (p : Place) → Sound c → Option·map (λ o. shapeOf (o .answer)) (outcomeAt c p) ≡ formulasAt (keyLengthOf c) (c .«reply_size») p
+place-shape c (command x) s = ap answered (one-shape c (x .interface) (x .command) (x .fresh) (x .room) s)
+place-shape c (keySets k) s = refl
+
 -- DEMAND 3, the formulas: a list on a card that is sound gives at each place what the formulas of frame, length, L and reply size say
-pub list-formulas : (xs : List Call) (c : Card) → Sound c → map (λ o. shapeOf (o .answer)) (run c xs) ≡ map (formulasOf (keyLengthOf c) (c .«reply_size»)) xs
+pub list-formulas : (ps : List Place) (c : Card) → Sound c → map (Option·map (λ o. shapeOf (o .answer))) (run c ps) ≡ map (formulasAt (keyLengthOf c) (c .«reply_size»)) ps
 unfolding run
 list-formulas [] c s = refl
-list-formulas (x ∷ xs) c s =
-    let k : Card = outcomeOf c x .card in
-    let z : k .«reply_size» ≡ c .«reply_size» = ap (λ (e : Card). e .«reply_size») (card-kept c (x .interface) (x .command) (x .fresh) (x .room)) in
-    let w : keyLengthOf k ≡ keyLengthOf c = ap keyLengthOf (card-kept c (x .interface) (x .command) (x .fresh) (x .room)) in
-    rw (one-shape c (x .interface) (x .command) (x .fresh) (x .room) s, list-formulas xs k (sound-kept c (x .interface) (x .command) (x .fresh) (x .room) s), w, z)
+list-formulas (p ∷ ps) c s =
+    ap₂ (λ (x : Option Shape) (l : List (Option Shape)). x ∷ l) (place-shape c p s)
+    (list-formulas ps (next c p) (sound-next c p s) ∙ ap₂ (λ (l b : ℕ). map (formulasAt l b) ps) (length-kept c p) (size-kept c p))
 
 -- the session of a reply, from the load and the call
 session-initial : (c : Card) (s : Session) (d fresh : List ℕ) (t : Bool) → acceptsInitial c d ≡ t →
@@ -182,25 +227,25 @@ module _ (c k : Card) (q : LoadedAs c k) (x : Call) where
   reply-is = ap (λ (e : Card). replyTo e (x .command) (x .fresh)) q ∙ reply-unseen (withSession c (k .session)) (k .tries) (x .command) (x .fresh)
 
   -- a call leaves the session that load, session and call give
-  next-session : outcomeOf k x .card .session ≡ nextSession c (k .session) x
+  call-session : outcomeOf k x .card .session ≡ nextSession c (k .session) x
   unfolding nextSession d
-  next-session =
+  call-session =
       ap (λ (e : Card). e .session) (card-kept k (x .interface) (x .command) (x .fresh) (x .room))
       ∙ ap₂ (λ (n : ℕ) (r : Reply). cond (eqb (verdictOn (x .interface) n (x .command) (x .fresh) (x .room) .status) 0x9000) (r .session) (k .session)) length-is reply-is
       ∙ next-cases (eqb (verdictOn (x .interface) (keyLengthOf c) (x .command) (x .fresh) (x .room) .status) 0x9000)
 
-  next : Session
-  next = cond (eqb (verdictOn (x .interface) (keyLengthOf k) (x .command) (x .fresh) (x .room) .status) 0x9000) (replyTo k (x .command) (x .fresh) .session) (k .session)
+  then : Session
+  then = cond (eqb (verdictOn (x .interface) (keyLengthOf k) (x .command) (x .fresh) (x .room) .status) 0x9000) (replyTo k (x .command) (x .fresh) .session) (k .session)
 
   tried : Tries
   tried = triesAfter (x .interface) (refusedTry k (x .interface) (x .command) (x .fresh) (x .room)) (k .tries)
 
   -- and all that the load gave
-  next-loaded : LoadedAs c (outcomeOf k x .card)
-  unfolding next tried
-  next-loaded =
+  call-loaded : LoadedAs c (outcomeOf k x .card)
+  unfolding then tried
+  call-loaded =
       let kept = card-kept k (x .interface) (x .command) (x .fresh) (x .room) in
-      kept ∙ ap (λ (e : Card). withTries (withSession e next) tried) q ∙ sym (ap (λ (e : Card). withTries (withSession c (e .session)) (e .tries)) kept)
+      kept ∙ ap (λ (e : Card). withTries (withSession e then) tried) q ∙ sym (ap (λ (e : Card). withTries (withSession c (e .session)) (e .tries)) kept)
 
   sum-cases : (t : Bool) (u : Tries) →
       cond {A = Outcome} t (done k u (replyTo k (x .command) (x .fresh))) (undone k (verdictOn (x .interface) (keyLengthOf k) (x .command) (x .fresh) (x .room))) .sum
@@ -208,55 +253,83 @@ module _ (c k : Card) (q : LoadedAs c k) (x : Call) where
   sum-cases true u = refl
   sum-cases false u = refl
 
-  -- DEMAND 3, the work sum: that of the steps that load, session and call give
-  pub call-sum : outcomeOf k x .sum ≡ workSum (stepsOf c (k .session) x)
+  -- the work sum is that of the steps that load, session and call give
+  call-sum : outcomeOf k x .sum ≡ workSum (stepsOf c (k .session) x)
   unfolding outcome stepsOf
   call-sum =
       sum-cases (eqb (verdictOn (x .interface) (keyLengthOf k) (x .command) (x .fresh) (x .room) .status) 0x9000) _
       ∙ ap₂ (λ (n : ℕ) (r : Reply). workSum (cond (isDeclined n x) [] (r .steps))) length-is reply-is
 
--- the card behind a list is the first one but for its state, with the session after the list
-pub after-loaded : (c k : Card) → LoadedAs c k → (xs : List Call) → LoadedAs c (cardAfter k xs)
-unfolding cardAfter
-after-loaded c k q [] = q
-after-loaded c k q (x ∷ xs) = after-loaded c (outcomeOf k x .card) (next-loaded c k q x) xs
+-- T-07: a load of key sets keeps the state, and changes the rest as it does of the load
+module _ (c k : Card) (q : LoadedAs c k) (sets : List KeySet) where
+  sets-loaded : LoadedAs (setsLoaded c sets .card) (setsLoaded k sets .card)
+  sets-loaded =
+      ap (λ (e : Card). setsLoaded e sets .card) q
+      ∙ in-state c (k .session) (k .tries) sets
+      ∙ sym (ap (λ (e : Card). withTries (withSession (setsLoaded c sets .card) (e .session)) (e .tries)) (only-table k sets))
 
-pub session-after : (c k : Card) → LoadedAs c k → (xs : List Call) → cardAfter k xs .session ≡ sessionAfter c (k .session) xs
+-- a place
+module _ (c k : Card) (q : LoadedAs c k) where
+  next-loaded : (p : Place) → LoadedAs (loadAt c p) (next k p)
+  next-loaded (command x) = call-loaded c k q x
+  next-loaded (keySets s) = sets-loaded c k q s
+
+  next-session : (p : Place) → next k p .session ≡ sessionAt c (k .session) p
+  next-session (command x) = call-session c k q x
+  next-session (keySets s) = ap (λ (e : Card). e .session) (only-table k s)
+
+  -- DEMAND 3, the work sum: that of the steps that load, session and call give; a load of key sets has none
+  pub place-sum : (p : Place) → Option·map (λ o. o .sum) (outcomeAt k p) ≡ Option·map workSum (stepsAt c (k .session) p)
+  place-sum (command x) = ap answered (call-sum c k q x)
+  place-sum (keySets s) = refl
+
+-- the card behind a list is the load's, as the list left it, but for its state, with the session after the list
+pub after-loaded : (c k : Card) → LoadedAs c k → (ps : List Place) → LoadedAs (loadAfter c ps) (cardAfter k ps)
+unfolding cardAfter loadAfter
+after-loaded c k q [] = q
+after-loaded c k q (p ∷ ps) = after-loaded (loadAt c p) (next k p) (next-loaded c k q p) ps
+
+pub session-after : (c k : Card) → LoadedAs c k → (ps : List Place) → cardAfter k ps .session ≡ sessionAfter c (k .session) ps
 unfolding cardAfter sessionAfter
 session-after c k q [] = refl
-session-after c k q (x ∷ xs) =
-    session-after c (outcomeOf k x .card) (next-loaded c k q x) xs ∙ ap (λ (s : Session). sessionAfter c s xs) (next-session c k q x)
+session-after c k q (p ∷ ps) =
+    session-after (loadAt c p) (next k p) (next-loaded c k q p) ps ∙ ap (λ (s : Session). sessionAfter (loadAt c p) s ps) (next-session c k q p)
 
--- each place of a list: the calls behind xs run on the card that these left
-run-append : (c : Card) (xs ys : List Call) → run c (xs ++ ys) ≡ run c xs ++ run (cardAfter c xs) ys
+-- each place of a list: the places behind ps run on the card that these left
+run-append : (c : Card) (ps qs : List Place) → run c (ps ++ qs) ≡ run c ps ++ run (cardAfter c ps) qs
 unfolding run cardAfter
-run-append c [] ys = refl
-run-append c (x ∷ xs) ys = ap (λ (l : List Outcome). outcomeOf c x ∷ l) (run-append (outcomeOf c x .card) xs ys)
+run-append c [] qs = refl
+run-append c (p ∷ ps) qs = ap (λ (l : List (Option Outcome)). outcomeAt c p ∷ l) (run-append (next c p) ps qs)
 
-length-run : (c : Card) (xs : List Call) → length (run c xs) ≡ length xs
+length-run : (c : Card) (ps : List Place) → length (run c ps) ≡ length ps
 unfolding run
 length-run c [] = refl
-length-run c (x ∷ xs) = ap suc (length-run (outcomeOf c x .card) xs)
+length-run c (p ∷ ps) = ap suc (length-run (next c p) ps)
 
--- DEMAND 3, a place: the outcome of the call x behind the calls xs is that of the card that these left
-pub place : (c : Card) (xs ys : List Call) (x : Call) (o : Outcome) → getD (run c (xs ++ (x ∷ ys))) (length xs) o ≡ outcomeOf (cardAfter c xs) x
+-- DEMAND 3, a place: what is handed back at p behind the places ps is that of the card that these left
+pub place : (c : Card) (ps qs : List Place) (p : Place) (o : Option Outcome) → getD (run c (ps ++ (p ∷ qs))) (length ps) o ≡ outcomeAt (cardAfter c ps) p
 unfolding run
-place c xs ys x o =
-    ap (λ (l : List Outcome). getD l (length xs) o) (run-append c xs (x ∷ ys))
-    ∙ getD-at (run c xs) (outcomeOf (cardAfter c xs) x) (run (outcomeOf (cardAfter c xs) x .card) ys) o (length xs) (length-run c xs)
+place c ps qs p o =
+    ap (λ (l : List (Option Outcome)). getD l (length ps) o) (run-append c ps (p ∷ qs))
+    ∙ getD-at (run c ps) (outcomeAt (cardAfter c ps) p) (run (next (cardAfter c ps) p) qs) o (length ps) (length-run c ps)
 
 -- two lists that agree
 formulas-alike : (l b : ℕ) {x y : Call} → Alike x y → formulasOf l b x ≡ formulasOf l b y
 formulas-alike l b {x} {y} a = rw (a .interfaces, a .frames, a .lengths, a .fresh, a .rooms)
 
-all-alike : (l b : ℕ) {xs ys : List Call} → AllAlike xs ys → map (formulasOf l b) xs ≡ map (formulasOf l b) ys
+place-alike : (l b : ℕ) {p q : Place} → AlikeAt p q → formulasAt l b p ≡ formulasAt l b q
+place-alike l b (calls a) = ap answered (formulas-alike l b a)
+place-alike l b loads = refl
+
+all-alike : (l b : ℕ) {ps qs : List Place} → AllAlike ps qs → map (formulasAt l b) ps ≡ map (formulasAt l b) qs
 all-alike l b none = refl
-all-alike l b (more {x} {y} a r) = rw (formulas-alike l b a, all-alike l b r)
+all-alike l b (more a r) = ap₂ (λ (x : Option Shape) (t : List (Option Shape)). x ∷ t) (place-alike l b a) (all-alike l b r)
 
 -- DEMAND 3, two lists on two cards: numbers, statuses, counts and lengths are equal at each place
-pub lists-alike : {xs ys : List Call} (c e : Card) → Sound c → Sound e → Agree c e → AllAlike xs ys → map (λ o. shapeOf (o .answer)) (run c xs) ≡ map (λ o. shapeOf (o .answer)) (run e ys)
-lists-alike {xs} {ys} c e sc se g a =
-    list-formulas xs c sc ∙ ap₂ (λ (l b : ℕ). map (formulasOf l b) xs) (g .keyLengths) (g .size) ∙ all-alike (keyLengthOf e) (e .«reply_size») a ∙ sym (list-formulas ys e se)
+pub lists-alike : {ps qs : List Place} (c e : Card) → Sound c → Sound e → Agree c e → AllAlike ps qs →
+    map (Option·map (λ o. shapeOf (o .answer))) (run c ps) ≡ map (Option·map (λ o. shapeOf (o .answer))) (run e qs)
+lists-alike {ps} {qs} c e sc se g a =
+    list-formulas ps c sc ∙ ap₂ (λ (l b : ℕ). map (formulasAt l b) ps) (g .keyLengths) (g .size) ∙ all-alike (keyLengthOf e) (e .«reply_size») a ∙ sym (list-formulas qs e se)
 
 -- what a refusal answers, of L, shill keys, reply size and fresh bytes alone
 refusedFinal : List ℕ → ℕ → List ℕ → List ℕ
@@ -313,12 +386,28 @@ same-answer c e x y g a n m =
       handle = refused-handle c x n ∙ rw (a .interfaces, a .frames, a .lengths, a .fresh, a .rooms, g .keyLengths, g .handle) (sym (refused-handle e y m));
     }
 
-agree-kept : (c e : Card) (x y : Call) → Agree c e → Agree (outcomeOf c x .card) (outcomeOf e y .card)
-agree-kept c e x y g =
-    rw (card-kept c (x .interface) (x .command) (x .fresh) (x .room), card-kept e (y .interface) (y .command) (y .fresh) (y .room)) (record { keyLengths = g .keyLengths; key = g .key; handle = g .handle; size = g .size })
+-- what two cards agree in, a place keeps
+agree-next : (c : Card) (p : Place) → Agree (next c p) c
+agree-next c (command x) = rw (card-kept c (x .interface) (x .command) (x .fresh) (x .room)) (record { keyLengths = refl; key = refl; handle = refl; size = refl })
+agree-next c (keySets s) = rw (only-table c s) (record { keyLengths = refl; key = refl; handle = refl; size = refl })
+
+agree-kept : (c e : Card) (p q : Place) → Agree c e → Agree (next c p) (next e q)
+agree-kept c e p q g =
+    let a = agree-next c p in
+    let b = agree-next e q in
+    record {
+      keyLengths = a .keyLengths ∙ g .keyLengths ∙ sym (b .keyLengths);
+      key = a .key ∙ g .key ∙ sym (b .key);
+      handle = a .handle ∙ g .handle ∙ sym (b .handle);
+      size = a .size ∙ g .size ∙ sym (b .size);
+    }
+
+same-at : (c e : Card) {p q : Place} → Agree c e → AlikeAt p q → SameAt c e p q
+same-at c e g (calls {x} {y} a) = same-answer c e x y g a
+same-at c e g loads = tt
 
 -- DEMAND 3, two lists on two cards: where neither accepts, the same answer bytes and key handle, at each place
-pub lists-indistinct : {xs ys : List Call} (c e : Card) → Agree c e → AllAlike xs ys → Indistinct c e xs ys
+pub lists-indistinct : {ps qs : List Place} (c e : Card) → Agree c e → AllAlike ps qs → Indistinct c e ps qs
 unfolding Indistinct
 lists-indistinct c e g none = tt
-lists-indistinct c e g (more {x} {y} a r) = (same-answer c e x y g a, lists-indistinct (outcomeOf c x .card) (outcomeOf e y .card) (agree-kept c e x y g) r)
+lists-indistinct c e g (more {p} {q} a r) = (same-at c e g a, lists-indistinct (next c p) (next e q) (agree-kept c e p q g) r)

@@ -4,4 +4,5 @@ pub mod After
 pub mod Unseen
 pub mod Demand3
 pub mod Tried
+pub mod KeyChange
 pub mod Ways

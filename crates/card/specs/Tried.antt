@@ -1,7 +1,8 @@
--- T-06 over a list of calls: what the failed tries come to, and that nothing else of a call depends on them. Assumes nothing.
+-- T-06 over a list: what the failed tries come to, and that nothing else of a call depends on them. Assumes nothing.
 use mathlib.Core.Path.{_≡_, refl, sym, ap, ap₂, _∙_, subst}
 use mathlib.Core.Bool.{Bool, true, false, cond, _&&_, not}
 use mathlib.Core.List.{List, [], _∷_}
+use mathlib.Core.Option.{Option, some as answered, Option·map}
 use Prim.Native.Nat.{ℕ, _+_, _≤_}
 use native.Mathlib.Omega.{arith}
 use lib.Dec.{eqb}
@@ -13,6 +14,7 @@ use Rattle.plaid_types.specs.Keys.{keyLengthOf}
 use Rattle.plaid_types.specs.Tries.{isInterface, holding, oneMore, triesAfter, triesOn}
 use Rattle.plaid_types.specs.TriesLaws.{holding-small, holding-more, holding-most, count-after}
 use Rattle.plaid_types.specs.Cards.{Reply, withSession, withTries}
+use Rattle.plaid_types.specs.declared.KeySet.{KeySet}
 use Rattle.plaid_types.specs.declared.Session.{Session}
 use Rattle.plaid_types.specs.declared.Tries.{Tries}
 use Rattle.plaid_types.specs.declared.Card.{Card}
@@ -20,10 +22,12 @@ use Rattle.plaid_types.specs.declared.Answer.{Answer}
 use Rattle.plaid_types.specs.declared.Outcome.{Outcome}
 use Rattle.initial.specs.Initial.{acceptsInitial}
 use Rattle.final_command.specs.Final.{acceptsFinal}
+use Rattle.key_change.specs.KeyChange.{setsLoaded}
+use Rattle.key_change.specs.Laws.{only-table, in-state}
 use Rattle.card.specs.Command.{replyTo, refusesFinal, told, declined, done, undone, verdictOn, outcome, answerBytes}
 use Rattle.card.specs.After.{refusedTry}
 use Rattle.card.specs.Unseen.{reply-unseen}
-use Rattle.card.specs.Lists.{Call, outcomeOf, bytesOf, run, cardAfter, isInitial, accepted, refusedFinal, refusals, bytesOfAll, ButTries, Unseen}
+use Rattle.card.specs.Lists.{Call, outcomeOf, bytesOf, Place, command, keySets, outcomeAt, bytesAt, next, run, cardAfter, isInitial, accepted, refusedFinal, refusedAt, refusals, bytesOfAll, ButTries, Unseen}
 use Rattle.card.specs.Demand3.{card-kept}
 
 -- neither declined nor accepted, of a final command, is what the card counts
@@ -65,18 +69,22 @@ count-more : (t : Bool) (n r : ℕ) → holding (cond t (oneMore n) n + r) ≡ h
 count-more true n r = holding-more (n + 1) r ∙ ap holding (omega arith)
 count-more false n r = ap holding (omega arith)
 
+place-count : (c : Card) (p : Place) (j : ℕ) → isInterface j ≡ true → triesOn j (next c p .tries) ≡ cond (refusedAt j c p) (oneMore (triesOn j (c .tries))) (triesOn j (c .tries))
+place-count c (command x) j h = next-count c x j h
+place-count c (keySets s) j h = ap (λ (k : Card). triesOn j (k .tries)) (only-table c s)
+
 -- "The card counts refused final commands separately for the two .. and holds at 65,535": each count after a list
-pub list-tries : (j : ℕ) → isInterface j ≡ true → (c : Card) → triesOn j (c .tries) ≤ 65535 → (xs : List Call) →
-    triesOn j (cardAfter c xs .tries) ≡ holding (triesOn j (c .tries) + refusals j c xs)
+pub list-tries : (j : ℕ) → isInterface j ≡ true → (c : Card) → triesOn j (c .tries) ≤ 65535 → (ps : List Place) →
+    triesOn j (cardAfter c ps .tries) ≡ holding (triesOn j (c .tries) + refusals j c ps)
 unfolding cardAfter refusals
 list-tries j h c m [] = sym (ap holding (omega arith) ∙ holding-small (triesOn j (c .tries)) m)
-list-tries j h c m (x ∷ xs) =
-    let t : Bool = refusedFinal c x && eqb (x .interface) j in
+list-tries j h c m (p ∷ ps) =
+    let t : Bool = refusedAt j c p in
     let n : ℕ = triesOn j (c .tries) in
-    let e : triesOn j (outcomeOf c x .card .tries) ≡ cond t (oneMore n) n = next-count c x j h in
-    list-tries j h (outcomeOf c x .card) (subst (λ (k : ℕ). k ≤ 65535) (sym e) (count-most t n m)) xs
-    ∙ ap (λ (k : ℕ). holding (k + refusals j (outcomeOf c x .card) xs)) e
-    ∙ count-more t n (refusals j (outcomeOf c x .card) xs)
+    let e : triesOn j (next c p .tries) ≡ cond t (oneMore n) n = place-count c p j h in
+    list-tries j h (next c p) (subst (λ (k : ℕ). k ≤ 65535) (sym e) (count-most t n m)) ps
+    ∙ ap (λ (k : ℕ). holding (k + refusals j (next c p) ps)) e
+    ∙ count-more t n (refusals j (next c p) ps)
 
 -- of an outcome, what is sent and summed, by L and the reply
 module _ (x : Call) where
@@ -134,15 +142,40 @@ module _ (x : Call) where
         ∙ (λ j. withTries (withSession (q j) (s j)) (triesAfter i (refusedTry k i (x .command) (x .fresh) (x .room)) (k .tries)))
         ∙ sym (ap₂ (λ (a b : Card). withTries a (b .tries)) (card-kept m i (x .command) (x .fresh) (x .room)) kept)
 
+-- a load of key sets looks at no tries, and keeps them
+sets-same : (k m : Card) → ButTries k m → (s : List KeySet) → ButTries (setsLoaded k s .card) (setsLoaded m s .card)
+sets-same k m q s =
+    ap (λ (e : Card). setsLoaded e s .card) q
+    ∙ in-state m (m .session) (k .tries) s
+    ∙ ap₂ (λ (a : Session) (u : Tries). withTries (withSession (setsLoaded m s .card) a) u) (sym (ap (λ (e : Card). e .session) (only-table m s))) (sym (ap (λ (e : Card). e .tries) (only-table k s)))
+
+-- a place
+module _ (k m : Card) (q : ButTries k m) where
+  outcome-at : (p : Place) → Option·map (λ o. o .answer) (outcomeAt k p) ≡ Option·map (λ o. o .answer) (outcomeAt m p)
+  outcome-at (command x) = ap answered (answer-same x k m q)
+  outcome-at (keySets s) = refl
+
+  sum-at : (p : Place) → Option·map (λ o. o .sum) (outcomeAt k p) ≡ Option·map (λ o. o .sum) (outcomeAt m p)
+  sum-at (command x) = ap answered (sum-same x k m q)
+  sum-at (keySets s) = refl
+
+  bytes-at : (p : Place) → bytesAt k p ≡ bytesAt m p
+  bytes-at (command x) = bytes-same x k m q
+  bytes-at (keySets s) = refl
+
+  next-at : (p : Place) → ButTries (next k p) (next m p)
+  next-at (command x) = next-same x k m q
+  next-at (keySets s) = sets-same k m q s
+
 -- "nothing sent over the air depends on either": the same card but for its tries gives the same answers, bytes included, for every list
-pub list-unseen : (k m : Card) → ButTries k m → (xs : List Call) → Unseen k m xs
+pub list-unseen : (k m : Card) → ButTries k m → (ps : List Place) → Unseen k m ps
 unfolding run cardAfter bytesOfAll
 list-unseen k m q [] = record { answers = refl; bytes = refl; sums = refl; cards = q }
-list-unseen k m q (x ∷ xs) =
-    let rest = list-unseen (outcomeOf k x .card) (outcomeOf m x .card) (next-same x k m q) xs in
+list-unseen k m q (p ∷ ps) =
+    let rest = list-unseen (next k p) (next m p) (next-at k m q p) ps in
     record {
-      answers = ap₂ (λ (a : Answer) (l : List Answer). a ∷ l) (answer-same x k m q) (rest .answers);
-      bytes = ap₂ (λ (a : List ℕ) (l : List (List ℕ)). a ∷ l) (bytes-same x k m q) (rest .bytes);
-      sums = ap₂ (λ (a : ℕ) (l : List ℕ). a ∷ l) (sum-same x k m q) (rest .sums);
+      answers = ap₂ (λ (a : Option Answer) (l : List (Option Answer)). a ∷ l) (outcome-at k m q p) (rest .answers);
+      bytes = ap₂ (λ (a : List ℕ) (l : List (List ℕ)). a ∷ l) (bytes-at k m q p) (rest .bytes);
+      sums = ap₂ (λ (a : Option ℕ) (l : List (Option ℕ)). a ∷ l) (sum-at k m q p) (rest .sums);
       cards = rest .cards;
     }

@@ -20,11 +20,11 @@ use Rattle.plaid_types.specs.declared.Mode.{Mode}
 use Rattle.plaid_types.specs.declared.Session.{Session}
 use Rattle.plaid_types.specs.declared.Tries.{Tries}
 use Rattle.plaid_types.specs.declared.Card.{Card}
-use Rattle.load.specs.Load.{pastSet, pastMode}
+use Rattle.load.specs.Load.{pastSet, pastMode, setSlot}
 use Rattle.frame.specs.Frame.{dataOf}
 use Rattle.initial.specs.Initial.{openedWith}
 use Rattle.final_command.specs.Final.{textOf, keysHash, opMode, modeOf, decipheredText}
-use Rattle.card.specs.Lists.{Call, cardAfter, outcomeOf, bytesOf, isInitial, accepted}
+use Rattle.card.specs.Lists.{Call, Place, cardAfter, outcomeOf, bytesOf, isInitial, accepted}
 use Rattle.reader_seal.specs.Seal.{sealedOf, sealOutput, sealDeclined}
 use Rattle.reader_seal.specs.declared.Sealed.{Sealed}
 use Rattle.claims.specs.Load.{Load, cardOf, recordGiven}
@@ -58,14 +58,19 @@ pub record Lent (l i : ℕ) (fresh : List ℕ) (room : ℕ) : Type 0 where
 abbrev pub inState : Load → Session → Tries → Card
 inState l s u = withTries (withSession (cardOf l) s) u
 
+-- what the type of a session says: RND1 and, by T-07, the FAKey are arrays of 32 bytes
+pub record TypedSession (s : Session) : Type 0 where
+  pub rnd1 : length (s .rnd1) ≡ 32
+  pub key : length (s .«fa_key») ≡ 32
+
 -- what is said of every call with the command cmd and such an interface, fresh bytes and output, on the load's card in any state
 abbrev pub EachCall : Load → List ℕ → (Card → Call → Type 0) → Type 0
 EachCall l cmd q =
-    (s : Session) (u : Tries) (i : ℕ) (fresh : List ℕ) (room : ℕ) → length (s .rnd1) ≡ 32 → Lent (l .given .«key_length») i fresh room →
+    (s : Session) (u : Tries) (i : ℕ) (fresh : List ℕ) (room : ℕ) → TypedSession s → Lent (l .given .«key_length») i fresh room →
     q (inState l s u) (record { interface = i; command = cmd; fresh = fresh; room = room })
 
--- "set k, n comparisons", of a call x on the card c: the handle is that of the load's set k; the session is open with KeySetID k and the first L fresh
--- bytes as RND1, and the card is otherwise the load's; the block is 00 02, the pad bytes, 00, and STR1 = KeySetID, DivData, RND1, RND1
+-- "set k, n comparisons", of a call x on the card c: the handle is that of the load's set k; the session is open with that set, by T-07 its FAKey too, and
+-- the first L fresh bytes as RND1, and the card is otherwise the load's; the block is 00 02, the pad bytes, 00, and STR1 = KeySetID, DivData, RND1, RND1
 pub record Answered (l : Load) (k n : ℕ) (c : Card) (x : Call) : Type 0 where
   pub number : outcomeOf c x .answer .number ≡ 0
   pub status : outcomeOf c x .answer .status ≡ 0x9000
@@ -73,7 +78,7 @@ pub record Answered (l : Load) (k n : ℕ) (c : Card) (x : Call) : Type 0 where
   pub place : ℕ
   pub gave : Gave l place k
   pub handle : outcomeOf c x .answer .handle ≡ getD (l .sets) place pastSet .handle
-  pub card : outcomeOf c x .card ≡ inState l (openedWith (record { 0 = k }) (part (x .fresh) 0 (l .given .«key_length»))) (c .tries)
+  pub card : outcomeOf c x .card ≡ inState l (openedWith (setSlot (getD (l .sets) place pastSet)) (part (x .fresh) 0 (l .given .«key_length»))) (c .tries)
   pub block :
       bytesOf c x ≡
       0 ∷ 2 ∷ (drop (str1Length (l .given .«key_length»)) (x .fresh) ++ (0 ∷ k / 256 ∷ k % 256 ∷ (l .given .«div_data» ++ (part (x .fresh) 0 (l .given .«key_length») ++ part (x .fresh) 0 (l .given .«key_length»)))))
@@ -153,16 +158,16 @@ Size n b = Of (λ l. Longest l n) (λ l. cardOf l .«reply_size» ≡ b)
 abbrev pub lengths : Load → List ℕ
 lengths l = map (λ (m : Mode). m .len) (take (l .given .«mode_count») (l .given .modes))
 
--- T-01: B is b, and mode number i is answered with a body of n bytes: so every final command that is accepted behind any calls and names that mode,
+-- T-01: B is b, and mode number i is answered with a body of n bytes: so every final command that is accepted behind any list and names that mode,
 -- by the body, DivData and padding under KeysHash by CBC
 pub record Replies (l : Load) (i b n : ℕ) (body : List ℕ) : Type 0 where
   pub size : cardOf l .«reply_size» ≡ b
   pub long : length body ≡ n
   pub answered :
-      (xs : List Call) (x : Call) → isInitial x ≡ false → accepted (cardAfter (cardOf l) xs) x ≡ true →
-      opMode (textOf (cardAfter (cardOf l) xs) (dataOf (x .command))) ≡ getD (l .given .modes) i pastMode .id →
-      bytesOf (cardAfter (cardOf l) xs) x ≡
-      encrypted (aesUnder (keysHash (cardAfter (cardOf l) xs) (dataOf (x .command)))) zeros b (padded (body ++ l .given .«div_data»))
+      (ps : List Place) (x : Call) → isInitial x ≡ false → accepted (cardAfter (cardOf l) ps) x ≡ true →
+      opMode (textOf (cardAfter (cardOf l) ps) (dataOf (x .command))) ≡ getD (l .given .modes) i pastMode .id →
+      bytesOf (cardAfter (cardOf l) ps) x ≡
+      encrypted (aesUnder (keysHash (cardAfter (cardOf l) ps) (dataOf (x .command)))) zeros b (padded (body ++ l .given .«div_data»))
 
 -- what is said of Seal at L = l, for every payload of p bytes and output, of the output, what Seal hands back, and the output behind it
 abbrev pub EachSeal : ℕ → ℕ → (List ℕ → Sealed → List ℕ → Type 0) → Type 0

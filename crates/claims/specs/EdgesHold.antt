@@ -2,6 +2,7 @@
 use mathlib.Core.Path.{_≡_, refl, sym, subst, ap, ap₂, _∙_}
 use mathlib.Core.Bool.{Bool, true, false, cond, _&&_, not}
 use mathlib.Core.List.{List, [], _∷_, _++_, append-assoc, append-nil}
+use mathlib.Core.Option.{Option, none as unanswered, Option·getD}
 use Prim.Native.Nat.{ℕ, zero, suc, _+_, _-_, _*_, _/_, _%_, _<_, _≤_}
 use native.Mathlib.Omega.{arith}
 use borrow.Author.Tests.{eq-eqb, ne-eqb, lt-ltb, le-ltb, le-leb}
@@ -28,7 +29,7 @@ use Rattle.plaid_types.specs.declared.ModeSlot.{ModeSlot}
 use Rattle.plaid_types.specs.declared.Session.{Session}
 use Rattle.plaid_types.specs.declared.Tries.{Tries}
 use Rattle.plaid_types.specs.declared.Card.{Card}
-use Rattle.load.specs.Load.{pastMode, replySize, refusal, modesRefusal, loaded}
+use Rattle.load.specs.Load.{pastMode, replySize, refusal, setsRefusal, modesRefusal, loaded}
 use Rattle.load.specs.Laws.{size-below, stocked-state}
 use Rattle.frame.specs.Frame.{frameOf, initialIns, insOf, lcOf, knownIns, whole, statusOf, dataOf}
 use Rattle.frame.specs.Laws.{frame-byte}
@@ -39,7 +40,7 @@ use Rattle.list.specs.Laws.{no-FF}
 use Rattle.initial.specs.Initial.{firstSlot, firstPlace, slotOf, acceptsInitial, str1, blockOf, openedWith, initialReply}
 use Rattle.final_command.specs.Final.{textOf, decipheredText, keysHash, modeOf, accepting, acceptsFinal, bodyOf, finalReply}
 use Rattle.card.specs.Command.{replyTo, refusesFinal, verdictOn, outcome, answerBytes}
-use Rattle.card.specs.Lists.{Call, outcomeOf, bytesOf, run, accepted, Shape, shapeOf, initialShape, finalShape, formulas}
+use Rattle.card.specs.Lists.{Call, outcomeOf, bytesOf, command, run, accepted, Shape, shapeOf, initialShape, finalShape, formulas}
 use Rattle.card.specs.Demand3.{list-formulas}
 use Rattle.reader_seal.specs.Seal.{lcOf as lcFor, payloadMost, finalCommand, sealCommand, sealNumber, sealedOf, sealOutput}
 use Rattle.reader_seal.specs.Laws.{length-sealCommand, seal-done, seal-written}
@@ -51,9 +52,10 @@ use Rattle.session_final.specs.Accepts.{SixConditions, six-conditions}
 use Rattle.claims.specs.Load.{Load, cardOf, recordGiven, bodyGiven}
 use Rattle.claims.specs.Loaded.{is-a-load, sound-state, set-slot, slot-given, sets-most, mode-slot, record-long, size-given, div-given, handle-given, length-is, shill-held}
 use Rattle.claims.specs.Loads.{set, mode, given, area, load-of, load-one, one-key, two-keys}
-use Rattle.claims.specs.Reply.{left, named-answer}
+use Rattle.claims.specs.Kept.{left}
+use Rattle.claims.specs.Reply.{named-answer}
 use Rattle.claims.specs.Found.{held-there}
-use Rattle.claims.specs.Edges.{Of, OfAll, Gave, framed, Lent, inState, EachCall, Answered, Refused, FinalCounts, FinalRefused, Final, Counts, Shortest, Records, Longest, Size, lengths, Replies, Seals, SealDeclines, Good, Bad, edges, All, end, _and_}
+use Rattle.claims.specs.Edges.{Of, OfAll, Gave, framed, Lent, inState, TypedSession, EachCall, Answered, Refused, FinalCounts, FinalRefused, Final, Counts, Shortest, Records, Longest, Size, lengths, Replies, Seals, SealDeclines, Good, Bad, edges, All, end, _and_}
 
 -- a KeySetID by its number
 abbrev idOf : ℕ → KeySetId
@@ -72,15 +74,15 @@ unfolding mode given load-of
 two-records m n e = (load-of 16 (set 16 1 ∷ []) (mode 7 0 m ∷ mode 8 m n ∷ []) m n (omega arith) (one-key 16 1 (omega arith)) e, refl)
 
 load-4-16 : (l : Load) × (lengths l ≡ 4 ∷ 16 ∷ [])
-unfolding set mode given area loadOf loaded refusal modesRefusal keyLength
+unfolding set mode given area loadOf loaded refusal setsRefusal modesRefusal keyLength
 load-4-16 = two-records 4 16 refl
 
 load-15-64 : (l : Load) × (lengths l ≡ 15 ∷ 64 ∷ [])
-unfolding set mode given area loadOf loaded refusal modesRefusal keyLength
+unfolding set mode given area loadOf loaded refusal setsRefusal modesRefusal keyLength
 load-15-64 = two-records 15 64 refl
 
 load-two : (l : Load) × (Gave l 0 2 × Gave l 1 5)
-unfolding set mode given area load-of loadOf loaded refusal modesRefusal keyLength
+unfolding set mode given area load-of loadOf loaded refusal setsRefusal modesRefusal keyLength
 load-two = (
   load-of 16 (set 16 2 ∷ set 16 5 ∷ []) (mode 7 0 16 ∷ []) 0 16 (omega arith) (two-keys 16 2 5 (omega arith) (omega arith)) refl,
   (record { within = omega arith; id = refl }, record { within = omega arith; id = refl }),
@@ -113,7 +115,7 @@ frames-any : (ins : ℕ) (d : List ℕ) → knownIns ins ≡ true → 0 < length
 frames-any ins d k h = record { status = framed-status ins (length d) d refl k h; data-is = framed-data ins (length d) d refl }
 
 -- such a call on a load's card: it hands back what the reply says, and its counts are the formulas'
-module _ (l : Load) (ins : ℕ) (d : List ℕ) (f : Frames ins d) (s : Session) (u : Tries) (i : ℕ) (fresh : List ℕ) (room : ℕ) (lr : length (s .rnd1) ≡ 32) (t : Lent (l .given .«key_length») i fresh room) where
+module _ (l : Load) (ins : ℕ) (d : List ℕ) (f : Frames ins d) (s : Session) (u : Tries) (i : ℕ) (fresh : List ℕ) (room : ℕ) (lr : TypedSession s) (t : Lent (l .given .«key_length») i fresh room) where
   abbrev c : Card
   c = inState l s u
 
@@ -152,7 +154,7 @@ module _ (l : Load) (ins : ℕ) (d : List ℕ) (f : Frames ins d) (s : Session) 
 
   call-shape : shapeOf (outcomeOf c x .answer) ≡ cond (eqb ins initialIns) (initialShape (length d)) (finalShape (keyLengthOf c) (c .«reply_size») (length d))
   unfolding run formulas
-  call-shape = ap (λ (y : List Shape). getD y 0 (shapeOf (outcomeOf c x .answer))) (list-formulas (x ∷ []) c (sound-state l s u lr)) ∙ rw (taken, ins-is, lc-is)
+  call-shape = ap (λ (y : List (Option Shape)). Option·getD (getD y 0 unanswered) (shapeOf (outcomeOf c x .answer))) (list-formulas (command x ∷ []) c (sound-state l s u (lr .rnd1) (lr .key))) ∙ rw (taken, ins-is, lc-is)
 
   call-accepted : accepted c x ≡ cond (eqb ins initialIns) (acceptsInitial c d) (acceptsFinal c d)
   unfolding accepted
@@ -164,7 +166,7 @@ unfolding blockOf padBytes
 block-is l fresh text = ap (λ (y : List ℕ). 0 ∷ 2 ∷ y) (append-assoc (drop (str1Length l) fresh) (0 ∷ []) text)
 
 -- an initial command
-module _ (l : Load) (d : List ℕ) (f : Frames 0x87 d) (s : Session) (u : Tries) (i : ℕ) (fresh : List ℕ) (room : ℕ) (lr : length (s .rnd1) ≡ 32) (t : Lent (l .given .«key_length») i fresh room) where
+module _ (l : Load) (d : List ℕ) (f : Frames 0x87 d) (s : Session) (u : Tries) (i : ℕ) (fresh : List ℕ) (room : ℕ) (lr : TypedSession s) (t : Lent (l .given .«key_length») i fresh room) where
   initial-shape : shapeOf (outcomeOf (c l 0x87 d f s u i fresh room lr t) (x l 0x87 d f s u i fresh room lr t) .answer) ≡ initialShape (length d)
   initial-shape = call-shape l 0x87 d f s u i fresh room lr t
 
@@ -186,7 +188,7 @@ module _ (l : Load) (d : List ℕ) (f : Frames 0x87 d) (s : Session) (u : Tries)
         handle = call-handle l 0x87 d f s u i fresh room lr t ∙ rw (b, e) (ap (λ (y : KeySetSlot). y .handle) q);
         card =
             call-card l 0x87 d f s u i fresh room lr t
-            ∙ rw (b, e, length-is l) (ap (λ (j : KeySetId). inState l (openedWith j (part fresh 0 (l .given .«key_length»))) u) (h .id));
+            ∙ rw (b, e, length-is l) (ap (λ (j : KeySetSlot). inState l (openedWith j (part fresh 0 (l .given .«key_length»))) u) q);
         block = call-bytes l 0x87 d f s u i fresh room lr t ∙ rw (b, e, length-is l, h .id, div-given l) (block-is (l .given .«key_length») fresh (str1 (idOf k) (l .given .«div_data») (part fresh 0 (l .given .«key_length»))));
       }
 

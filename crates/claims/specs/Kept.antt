@@ -1,57 +1,57 @@
--- What every list of calls keeps true of the card that a successful load returned: declined, refused, accepted and broken off alike. Assumes nothing.
+-- What every list keeps true of the card that a successful load returned: calls declined, refused, accepted and broken off alike, and by T-07 loads of
+-- key sets, refused or not. Assumes nothing.
 use mathlib.Core.Path.{_≡_, refl, sym, ap, _∙_, subst}
 use mathlib.Core.Bool.{true}
-use mathlib.Core.List.{List}
+use mathlib.Core.List.{List, []}
 use lib.ListN.{length}
-use Rattle.plaid_types.specs.Keys as keys
-use Rattle.plaid_types.specs.Keys.{keyLengthOf}
-use Rattle.plaid_types.specs.Cards.{noSession, withSession, withTries}
+use Rattle.plaid_types.specs.Cards.{noSession, withSets}
 use Rattle.plaid_types.specs.declared.Session.{Session}
-use Rattle.plaid_types.specs.declared.Tries.{Tries}
 use Rattle.plaid_types.specs.declared.Card.{Card}
-use Rattle.load.specs.Laws.{Stocked, setAt, stocked-state}
-use Rattle.final_command.specs.Final.{faKeyOf}
-use Rattle.card.specs.Lists.{Call, cardAfter, sessionAfter}
+use Rattle.load.specs.Load.{tableOf}
+use Rattle.load.specs.Laws.{Stocked, stocked-state}
+use Rattle.card.specs.Lists.{Place, cardAfter, loadAfter, sessionAfter}
 use Rattle.card.specs.Demand3.{LoadedAs, after-loaded, session-after}
-use Rattle.session.specs.Kept.{HeldIn, Lawful, none-lawful, after-lawful, key-of-session}
-use Rattle.claims.specs.Load.{Load, cardOf}
+use Rattle.session.specs.Kept.{OpenedBy, Lawful, none-lawful, after-lawful, load-stocked}
+use Rattle.claims.specs.Load.{Load, cardOf, setsAt}
 use Rattle.claims.specs.Loaded.{is-a-load}
+use Rattle.claims.specs.Sets.{table-at}
 
-pub record Kept (l : Load) (c : Card) : Type 0 where
-  -- all that the load made: "a card keeps only this state", the session and by T-06 the failed tries, beside it
-  pub same : LoadedAs (cardOf l) c
-  pub stocked : Stocked c
-  -- 32 bytes hold RND1
-  pub rnd1 : length (c .session .rnd1) ≡ 32
-  -- an open session's KeySetID is held
-  pub held : c .session .opened ≡ true → HeldIn c (c .session)
-  -- so its FAKey is that of the slot that holds it, and what stands in for a set that is not held is never used
-  pub key : (o : c .session .opened ≡ true) → faKeyOf c ≡ keys.held (keyLengthOf c) (setAt c (held o .slot) .«fa_key»)
+-- the card that the load l and the list ps left
+abbrev pub left : Load → List Place → Card
+left l ps = cardAfter (cardOf l) ps
 
-module _ (l : Load) (xs : List Call) where
-  s : Session
-  s = sessionAfter (cardOf l) noSession xs
+pub record Kept (l : Load) (ps : List Place) : Type 0 where
+  -- all that the load made, but for the table, which is that of the key sets there: "a card keeps only this state", the session and by T-06 the failed
+  -- tries, beside it
+  pub same : LoadedAs (withSets (cardOf l) (tableOf (setsAt l ps))) (left l ps)
+  pub stocked : Stocked (left l ps)
+  -- 32 bytes hold RND1, and 32 the FAKey
+  pub rnd1 : length (left l ps .session .rnd1) ≡ 32
+  pub key : length (left l ps .session .«fa_key») ≡ 32
+  -- an open session's KeySetID and FAKey are those of a set of the table at its initial command
+  pub opened : left l ps .session .opened ≡ true → OpenedBy (cardOf l) ps (left l ps .session)
 
-  u : Tries
-  u = cardAfter (cardOf l) xs .tries
+module _ (l : Load) (ps : List Place) where
+  loaded : LoadedAs (loadAfter (cardOf l) ps) (left l ps)
+  loaded = after-loaded (cardOf l) (cardOf l) refl ps
 
-  after-is : cardAfter (cardOf l) xs ≡ withTries (withSession (cardOf l) s) u
-  unfolding s u
-  after-is =
-      after-loaded (cardOf l) (cardOf l) refl xs
-      ∙ ap (λ (z : Session). withTries (withSession (cardOf l) z) (cardAfter (cardOf l) xs .tries))
-      (session-after (cardOf l) (cardOf l) refl xs ∙ ap (λ (z : Session). sessionAfter (cardOf l) z xs) (is-a-load l .no-session))
+  session-is : left l ps .session ≡ sessionAfter (cardOf l) noSession ps
+  session-is = session-after (cardOf l) (cardOf l) refl ps ∙ ap (λ (z : Session). sessionAfter (cardOf l) z ps) (is-a-load l .no-session)
 
-  lawful : Lawful (cardOf l) s
-  unfolding s
-  lawful = after-lawful (cardOf l) (is-a-load l .stocked) noSession (none-lawful (cardOf l)) xs
+  lawful : Lawful (cardOf l) ps (left l ps .session)
+  unfolding loadAfter
+  lawful =
+      subst (λ (z : Session). Lawful (cardOf l) ps z) (sym session-is)
+      (after-lawful (cardOf l) (is-a-load l .stocked) [] noSession (none-lawful (cardOf l) []) ps)
 
-  kept-by : Kept l (withTries (withSession (cardOf l) s) u)
-  kept-by =
-      let c : Card = withTries (withSession (cardOf l) s) u in
-      let g = stocked-state (cardOf l) s u (is-a-load l .stocked) in
-      let h : s .opened ≡ true → HeldIn c s = λ o. let a = lawful .held o in record { slot = a .slot; holds = a .holds } in
-      record { same = refl; stocked = g; rnd1 = lawful .rnd1; held = h; key = λ o. key-of-session c g o (h o) }
-
-  pub kept : Kept l (cardAfter (cardOf l) xs)
-  kept = subst (λ (c : Card). Kept l c) (sym after-is) kept-by
+  pub kept : Kept l ps
+  kept =
+      record {
+        same = subst (λ (c : Card). LoadedAs c (left l ps)) (table-at l ps) loaded;
+        stocked =
+            subst (λ (c : Card). Stocked c) (sym loaded)
+            (stocked-state (loadAfter (cardOf l) ps) (left l ps .session) (left l ps .tries) (load-stocked (cardOf l) (is-a-load l .stocked) ps));
+        rnd1 = lawful .rnd1;
+        key = lawful .key;
+        opened = lawful .opened;
+      }

@@ -2,11 +2,14 @@ pub mod Load
 pub mod Demand3
 pub mod Tries
 pub mod Session
+pub mod KeyChange
 pub mod Edges
 pub mod Loaded
+pub mod Sets
 pub mod Demand3Holds
 pub mod TriesHold
 pub mod Kept
+pub mod KeyChangeHolds
 pub mod Reply
 pub mod Sealed
 pub mod Found

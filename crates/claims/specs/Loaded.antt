@@ -1,5 +1,5 @@
 -- What a successful load made: its card in terms of what was given, and what every list of calls keeps true of it. Assumes nothing.
-use mathlib.Core.Path.{_≡_, sym, ap, ap₂, _∙_}
+use mathlib.Core.Path.{_≡_, refl, sym, ap, ap₂, _∙_}
 use mathlib.Core.Bool.{true, false, _||_}
 use mathlib.Core.List.{List}
 use Prim.Native.Nat.{ℕ, _+_, _-_, _<_, _≤_}
@@ -22,8 +22,8 @@ use Rattle.plaid_types.specs.Cards.{withSession, withTries}
 use Rattle.plaid_types.specs.declared.Session.{Session}
 use Rattle.plaid_types.specs.declared.Tries.{Tries}
 use Rattle.plaid_types.specs.declared.Card.{Card}
-use Rattle.load.specs.Load.{pastSet, pastMode, refusal, badRecord, largestSize, filled, setSlot, modeSlot, loadedCard}
-use Rattle.load.specs.Laws.{neither, some-none, Accepted, accepted, setAt, modeAt, set-held, mode-held, set-given, mode-given, IsLoaded, is-loaded, load-made, load-number, stocked-length, set-right, key-kept}
+use Rattle.load.specs.Load.{pastSet, pastMode, refusal, badRecord, largestSize, filled, setSlot, tableOf, modeSlot, loadedCard}
+use Rattle.load.specs.Laws.{neither, some-none, SetsRight, Accepted, accepted, slotAt, setAt, modeAt, set-held, mode-held, set-given, mode-given, IsLoaded, is-loaded, load-made, load-number, stocked-length, key-kept}
 use Rattle.load.specs.declared.Loaded.{Loaded}
 use Rattle.card.specs.Demand3.{Sound}
 use Rattle.plaid.specs.Interface.{loadOf}
@@ -69,17 +69,26 @@ module _ (l : Load) where
       (load-made (l .given .«key_length») (l .sets) (length (l .sets)) (l .given .modes) (l .given .«mode_count») (l .area) (l .given .«div_data») (l .given .«shill_key») (l .given .«shill_handle») zero-refusal)
       ∙ ap (λ (s : List KeySet). loadedCard (l .given .«key_length») s modes (l .area) (l .given .«div_data») (l .given .«shill_key») (l .given .«shill_handle»)) (take-length (l .sets))
 
+  -- its table
+  pub table-given : cardOf l .sets ≡ tableOf (l .sets)
+  unfolding loadedCard
+  table-given = ap (λ (c : Card). c .sets) card-is
+
+  -- what its key sets have shown
+  pub sets-shown : SetsRight (l .given .«key_length») (l .sets) (length (l .sets)) false (l .given .«shill_handle»)
+  sets-shown =
+      let k = shown .of-sets in
+      record { sets-some = k .sets-some; sets-most = k .sets-most; keys-right = k .keys-right; other-right = refl; ids-once = k .ids-once; handles-other = k .handles-other }
+
   -- the slot of a set that was given, and that there is no other
   pub set-slot : (i : ℕ) → i < length (l .sets) → setAt (cardOf l) i ≡ setSlot (getD (l .sets) i pastSet)
-  set-slot i h = ap (λ (c : Card). setAt c i) card-is ∙ set-held (l .given .«key_length») (l .sets) modes (l .area) (l .given .«div_data») (l .given .«shill_key») (l .given .«shill_handle») i h
+  set-slot i h = ap (λ (t : List KeySetSlot). slotAt t i) table-given ∙ set-held (l .sets) i h
 
   pub slot-given : (i : ℕ) → setAt (cardOf l) i .held ≡ true → i < length (l .sets)
-  slot-given i e =
-      set-given (l .given .«key_length») (l .sets) modes (l .area) (l .given .«div_data») (l .given .«shill_key») (l .given .«shill_handle») i
-      (sym (ap (λ (c : Card). setAt c i .held) card-is) ∙ e)
+  slot-given i e = set-given (l .sets) i (sym (ap (λ (t : List KeySetSlot). slotAt t i .held) table-given) ∙ e)
 
   pub sets-most : length (l .sets) ≤ 8
-  sets-most = shown .sets-most
+  sets-most = shown .of-sets .sets-most
 
   -- a mode that is held was counted
   pub mode-counted : (i : ℕ) → modeAt (cardOf l) i .held ≡ true → i < l .given .«mode_count»
@@ -141,17 +150,23 @@ module _ (l : Load) where
       let k = is-a-load in
       record {
         sets = k .stocked .sets-long;
+        keys = k .stocked .fa-long;
         modes = k .stocked .modes-long;
         div = k .stocked .div-long;
-        stored = record { sets = k .stocked .fa-long; shill = k .stocked .key-long; rnd1 = ap (λ (s : Session). length (s .rnd1)) (k .no-session) };
+        stored =
+            record {
+              shill = k .stocked .key-long;
+              rnd1 = ap (λ (s : Session). length (s .rnd1)) (k .no-session);
+              key = ap (λ (s : Session). length (s .«fa_key»)) (k .no-session);
+            };
         size = k .stocked .size-most;
       }
 
   -- and in any state
-  pub sound-state : (s : Session) (t : Tries) → length (s .rnd1) ≡ 32 → Sound (withTries (withSession (cardOf l) s) t)
-  sound-state s t r =
+  pub sound-state : (s : Session) (t : Tries) → length (s .rnd1) ≡ 32 → length (s .«fa_key») ≡ 32 → Sound (withTries (withSession (cardOf l) s) t)
+  sound-state s t r f =
       let k = sound in
-      record { sets = k .sets; modes = k .modes; div = k .div; stored = record { sets = k .stored .sets; shill = k .stored .shill; rnd1 = r }; size = k .size }
+      record { sets = k .sets; keys = k .keys; modes = k .modes; div = k .div; stored = record { shill = k .stored .shill; rnd1 = r; key = f }; size = k .size }
 
   -- T-01: "B becomes the largest that any record needs"
   pub size-given : cardOf l .«reply_size» ≡ largestSize (take (l .given .«mode_count») (l .given .modes))
@@ -181,15 +196,6 @@ module _ (l : Load) where
   pub shill-held : held (keyLengthOf (cardOf l)) (cardOf l .«shill_key») ≡ bytesOf (l .given .«shill_key»)
   shill-held =
       ap₂ held length-is key-given ∙ key-kept (l .given .«key_length») (l .given .«shill_key») length-three (l .typed .key .long) (shown .key-right)
-
-  -- each FAKey has L bytes, which its slot holds
-  pub set-length : (i : ℕ) → i < length (l .sets) → getD (l .sets) i pastSet .«fa_key» .length ≡ l .given .«key_length»
-  set-length i h = set-right shown i h (le-refl (length (l .sets)))
-
-  pub fa-key-held : (i : ℕ) → i < length (l .sets) → held (l .given .«key_length») (setAt (cardOf l) i .«fa_key») ≡ bytesOf (getD (l .sets) i pastSet .«fa_key»)
-  fa-key-held i h =
-      ap (λ (s : KeySetSlot). held (l .given .«key_length») (s .«fa_key»)) (set-slot i h)
-      ∙ key-kept (l .given .«key_length») (getD (l .sets) i pastSet .«fa_key») length-three (l .typed .keys i h .long) (set-length i h)
 
   pub div-given : cardOf l .«div_data» ≡ l .given .«div_data»
   unfolding loadedCard

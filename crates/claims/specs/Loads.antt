@@ -12,7 +12,7 @@ use Rattle.key_expansion.specs.KeyLength.{keyLength}
 use Rattle.plaid_types.specs.declared.Value.{Value}
 use Rattle.plaid_types.specs.declared.KeySet.{KeySet}
 use Rattle.plaid_types.specs.declared.Mode.{Mode}
-use Rattle.load.specs.Load.{pastSet, pastMode, refusal, modesRefusal, loaded}
+use Rattle.load.specs.Load.{pastSet, pastMode, refusal, setsRefusal, modesRefusal, loaded}
 use Rattle.plaid.specs.Interface.{loadOf}
 use Rattle.plaid.specs.declared.Given.{Given}
 use Rattle.claims.specs.Load.{Load, Typed, TypedValue}
@@ -84,7 +84,7 @@ two-keys l a b ha hb (suc (suc i)) p = absurd (omega arith)
 
 -- set 1, with keys of k bytes, and mode 7, with a record of n
 unfoldable pub load-one : (k n : ℕ) → keyLength k ≡ true → 0 < n → n ≤ 64 → Load
-unfolding set mode given area loadOf loaded refusal modesRefusal
+unfolding set mode given area loadOf loaded refusal setsRefusal modesRefusal
 load-one k n three h m =
     let z : length (replicate {A = ℕ} n 0xBB) ≡ n = length-replicate n 0xBB in
     load-of k (set k 1 ∷ []) (mode 7 0 n ∷ []) 0 n (omega arith) (one-key k 1 (omega arith))

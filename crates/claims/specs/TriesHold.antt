@@ -18,9 +18,9 @@ failed-tries l =
     record {
       new = is-a-load l .no-tries;
       counted =
-          λ j h xs. list-tries j h (cardOf l) (omega (arith, none j h)) xs
-          ∙ ap (λ (n : ℕ). holding (n + refusals j (cardOf l) xs)) (none j h)
+          λ j h ps. list-tries j h (cardOf l) (omega (arith, none j h)) ps
+          ∙ ap (λ (n : ℕ). holding (n + refusals j (cardOf l) ps)) (none j h)
           ∙ ap holding (omega arith);
-      apart = λ j h xs x n. other-kept (cardAfter (cardOf l) xs) x j h n;
-      unseen = λ t u xs. list-unseen (cardWith l t) (cardWith l u) refl xs;
+      apart = λ j h ps x n. other-kept (cardAfter (cardOf l) ps) x j h n;
+      unseen = λ t u ps. list-unseen (cardWith l t) (cardWith l u) refl ps;
     }

@@ -1,5 +1,6 @@
--- Whole sessions, closed, for each L: every hypothesis of the two claims is met. The card's first session is broken off behind its initial command; the
--- reader then lists a set that the card does not hold and one that it does, and asks for a record of 4 bytes or for one of 16. Assumes nothing.
+-- Whole sessions, closed, for each L: every hypothesis of the two claims is met. The card's first session is broken off behind its initial command, and
+-- its key sets are changed (T-07); the reader then lists a set that the card does not hold and one that it does, under its new key, and asks for a record
+-- of 4 bytes or for one of 16. Between the two commands the set is dropped, and a load without sets is refused. Assumes nothing.
 use mathlib.Core.Path.{_≡_, refl, sym, ap, _∙_}
 use mathlib.Core.Bool.{Bool, true, false, cond, not}
 use mathlib.Core.List.{List, [], _∷_, _++_}
@@ -14,15 +15,17 @@ use Rattle.octets.specs.Lists.{part, over}
 use Rattle.key_expansion.specs.KeyLength.{keyLength, each-length, length-most}
 use Rattle.plaid_types.specs.Keys.{keyLengthOf, bytesOf, str1Length, lawful, wide, held}
 use Rattle.plaid_types.specs.declared.Value.{Value}
+use Rattle.plaid_types.specs.declared.KeySet.{KeySet}
 use Rattle.plaid_types.specs.declared.KeySetId.{KeySetId}
 use Rattle.plaid_types.specs.Tries.{isInterface, noTries}
 use Rattle.plaid_types.specs.declared.Tries.{Tries}
 use Rattle.plaid_types.specs.declared.Card.{Card}
 use Rattle.frame.specs.Frame.{frameOf, whole, statusOf, dataOf}
 use Rattle.frame.specs.Declines.{padBytes, noZero, verdict}
-use Rattle.load.specs.Load.{pastSet, pastMode, refusal, modesRefusal, loadedCard, loaded, filled}
+use Rattle.load.specs.Load.{pastSet, pastMode, refusal, setsRefusal, modesRefusal, tableOf, loadedCard, loaded, filled}
+use Rattle.key_change.specs.KeyChange.{changed, setsLoaded, takesSets}
 use Rattle.card.specs.Command.{replyTo, done, undone, verdictOn, outcome, answerBytes}
-use Rattle.card.specs.Lists.{Call, cardAfter, Agree, none, more}
+use Rattle.card.specs.Lists.{Call, Place, command, keySets, cardAfter, calls, loads, Agree, none, more}
 use Rattle.reader_list.specs.List.{listNumber, listed, listOutput, listCommand}
 use Rattle.list.specs.Ber.{fitting, lengthAt, entryAt, head, walked, ended}
 use Rattle.list.specs.Ber as ber
@@ -35,7 +38,7 @@ use Rattle.reader_seal.specs.Laws.{seal-number, length-keysHash}
 use Rattle.reader_accept.specs.Accept.{knownLength, decipheredText, acceptable, acceptNumber, acceptedOf}
 use Rattle.reader_accept.specs.Laws.{known}
 use Rattle.plaid.specs.Interface.{loadOf}
-use Rattle.claims.specs.Load.{Load, cardOf}
+use Rattle.claims.specs.Load.{Load, TypedValue, TypedPlaces, cardOf, setsAfter, setsAt}
 use Rattle.claims.specs.Loaded.{size-given, handle-given, length-is, key-given}
 use Rattle.claims.specs.Loads.{key, key-of, set, mode, given, area, load-of, load-one, two-keys}
 use Rattle.claims.specs.Demand3.{shapes}
@@ -128,12 +131,34 @@ payload-small (suc (suc (suc i))) = omega arith
 module _ (k : ℕ) (three : keyLength k ≡ true) where
   -- the loads, of one B: sets 1 and 2, with records of 4 and 16 bytes; and sets 3 and 4, with records of 31 and 1
   unfoldable pub one-two : Load
-  unfolding set mode given area loadOf loaded refusal modesRefusal
+  unfolding set mode given area loadOf loaded refusal setsRefusal modesRefusal
   one-two = load-of k (set k 1 ∷ set k 2 ∷ []) (mode 7 0 4 ∷ mode 8 4 16 ∷ []) 4 16 (omega arith) (two-keys k 1 2 (omega arith) (omega arith)) (rw (three, eq-eqb k k refl))
 
   unfoldable pub three-four : Load
-  unfolding set mode given area loadOf loaded refusal modesRefusal
+  unfolding set mode given area loadOf loaded refusal setsRefusal modesRefusal
   three-four = load-of k (set k 3 ∷ set k 4 ∷ []) (mode 7 0 31 ∷ mode 8 31 1 ∷ []) 31 1 (omega arith) (two-keys k 3 4 (omega arith) (omega arith)) (rw (three, eq-eqb k k refl))
+
+-- the new key sets: 9, and 2 with another key
+unfoldable pub renewed : ℕ → List KeySet
+renewed k = set k 9 ∷ record { id = record { 0 = 2 }; handle = 4; «fa_key» = key k 6 } ∷ []
+
+renewed-typed : (k i : ℕ) → i < 2 → TypedValue (getD (renewed k) i pastSet .«fa_key»)
+unfolding set renewed
+renewed-typed k zero p = key-of k 9 (omega arith)
+renewed-typed k (suc zero) p = key-of k 6 (omega arith)
+renewed-typed k (suc (suc i)) p = absurd (omega arith)
+
+unfoldable pub past : ℕ → List Place
+past k = command broken-off ∷ keySets (renewed k) ∷ []
+
+takes-renewed : (k : ℕ) (three : keyLength k ≡ true) → takesSets (cardOf (one-two k three)) (renewed k) ≡ true
+unfolding one-two load-of mode given area set renewed loadOf loaded refusal setsRefusal modesRefusal loadedCard keyLength lawful
+takes-renewed k three = each-length (λ (n : ℕ). (t : keyLength n ≡ true) → takesSets (cardOf (one-two n t)) (renewed n) ≡ true) k three (λ t. refl) (λ t. refl) (λ t. refl) three
+
+-- so they are the table's
+sets-renewed : (k : ℕ) (three : keyLength k ≡ true) → setsAt (one-two k three) (past k) ≡ renewed k
+unfolding setsAfter past
+sets-renewed k three = rw (takes-renewed k three)
 
 -- the reader lists 8 and 2, and wants mode m, with a record of n bytes, for a payload. RSA is the identity here: what the platform decrypted for the second
 -- entry is the card's answer
@@ -142,7 +167,7 @@ module _ (k : ℕ) (three : keyLength k ≡ true) (payload : List ℕ) where
   exchange m n blocks =
       record {
         load = one-two k three;
-        before = broken-off ∷ [];
+        before = past k;
         keyLength = k;
         ids = record { 0 = 8 } ∷ record { 0 = 2 } ∷ replicate 14 noId;
         count = 2;
@@ -150,8 +175,9 @@ module _ (k : ℕ) (three : keyLength k ≡ true) (payload : List ℕ) where
         interface₁ = 0;
         fresh₁ = fresh;
         room₁ = 256;
+        between = (set k 5 ∷ []) ∷ [] ∷ [];
         blocks = blocks;
-        faKey = key k 2;
+        faKey = key k 6;
         rnd2 = key k 3;
         mode = record { 0 = m };
         payload = payload;
@@ -171,11 +197,11 @@ module _ (k : ℕ) (three : keyLength k ≡ true) (payload : List ℕ) where
 
 -- the card's answer is a block, and Open hands back an RND1 of L bytes
 first-long : (k : ℕ) (three : keyLength k ≡ true) (p : List ℕ) → length (first k three p) ≡ 256
-unfolding first exchange one-two load-of mode given area set fresh broken-off loadOf loaded refusal modesRefusal loadedCard filled keyLength lawful wide held str1Length listed listNumber listOutput listCommand encoded shortEntries part over cardAfter outcome answerBytes replyTo verdict isInterface frameOf statusOf whole dataOf padBytes initialReply slotOf firstPlace fitting lengthAt entryAt head walked ended ber.listed str1 blockOf
+unfolding first exchange past renewed one-two load-of mode given area set fresh broken-off loadOf loaded refusal setsRefusal modesRefusal tableOf loadedCard filled changed setsLoaded keyLength lawful wide held str1Length listed listNumber listOutput listCommand encoded shortEntries part over cardAfter outcome answerBytes replyTo verdict isInterface frameOf statusOf whole dataOf padBytes initialReply slotOf firstPlace fitting lengthAt entryAt head walked ended ber.listed str1 blockOf
 first-long k three p = each-length (λ (n : ℕ). (t : keyLength n ≡ true) → length (first n t p) ≡ 256) k three (λ t. refl) (λ t. refl) (λ t. refl) three
 
 rnd1-long : (k : ℕ) (three : keyLength k ≡ true) (p : List ℕ) (m n : ℕ) → open₁ (session k three p m n) .rnd1 .length ≡ k
-unfolding first exchange one-two load-of mode given area set fresh broken-off loadOf loaded refusal modesRefusal loadedCard filled keyLength lawful wide held str1Length listed listNumber listOutput listCommand encoded shortEntries part over cardAfter outcome answerBytes replyTo verdict isInterface frameOf statusOf whole dataOf padBytes initialReply slotOf firstPlace fitting lengthAt entryAt head walked ended ber.listed str1 blockOf session opened openNumber opensAs formed agrees
+unfolding first exchange past renewed one-two load-of mode given area set fresh broken-off loadOf loaded refusal setsRefusal modesRefusal tableOf loadedCard filled changed setsLoaded keyLength lawful wide held str1Length listed listNumber listOutput listCommand encoded shortEntries part over cardAfter outcome answerBytes replyTo verdict isInterface frameOf statusOf whole dataOf padBytes initialReply slotOf firstPlace fitting lengthAt entryAt head walked ended ber.listed str1 blockOf session opened openNumber opensAs formed agrees
 rnd1-long k three p m n = each-length (λ (l : ℕ). (t : keyLength l ≡ true) → open₁ (session l t p m n) .rnd1 .length ≡ l) k three (λ t. refl) (λ t. refl) (λ t. refl) three
 
 -- for mode m, a length of n and a payload within Seal's limit, whatever they are
@@ -193,9 +219,9 @@ module _ (k : ℕ) (three : keyLength k ≡ true) (p : List ℕ) (bytes : Bytes 
   unfolding session exchange part first
   decrypted = ap (take 256) (drop-at (replicate 256 0) (first k three p) 256 refl) ∙ take-all 256 (first k three p) (omega (arith, first-long k three p))
 
-  none-earlier : (i j : ℕ) → i < 1 → j < 2 → getD (one-two k three .sets) j pastSet .id ≡ getD (e .ids) i noId → ⊥
-  unfolding session exchange one-two load-of set
-  none-earlier zero zero h l q = let z : _≡_ {A = ℕ} 1 8 = ap (λ (x : KeySetId). x .0) q in omega arith
+  none-earlier : (i j : ℕ) → i < 1 → j < 2 → getD (renewed k) j pastSet .id ≡ getD (e .ids) i noId → ⊥
+  unfolding session exchange renewed set
+  none-earlier zero zero h l q = let z : _≡_ {A = ℕ} 9 8 = ap (λ (x : KeySetId). x .0) q in omega arith
   none-earlier zero (suc zero) h l q = let z : _≡_ {A = ℕ} 2 8 = ap (λ (x : KeySetId). x .0) q in omega arith
   none-earlier zero (suc (suc j)) h l q = omega arith
   none-earlier (suc i) j h l q = omega arith
@@ -209,7 +235,7 @@ module _ (k : ℕ) (three : keyLength k ≡ true) (p : List ℕ) (bytes : Bytes 
   unfolding session exchange sealNumber
   sealed-so =
       let r : ℕ = lcOf k (length p) + 6 in
-      seal-number k (key k 2) (open₁ e .«div_data») (open₁ e .rnd1) (key k 3) (record { 0 = m }) p (length (replicate {A = ℕ} r 0))
+      seal-number k (key k 6) (open₁ e .«div_data») (open₁ e .rnd1) (key k 3) (record { 0 = m }) p (length (replicate {A = ℕ} r 0))
       ∙ rw (
         three,
         eq-eqb k k refl,
@@ -221,22 +247,23 @@ module _ (k : ℕ) (three : keyLength k ≡ true) (p : List ℕ) (bytes : Bytes 
   hash-long : seal e .«keys_hash» .length ≡ k
   unfolding session exchange
   hash-long =
-      ap (λ (v : Value). v .length) (seal-hash k (key k 2) (open₁ e .«div_data») (open₁ e .rnd1) (key k 3) (record { 0 = m }) p (replicate (lcOf k (length p) + 6) 0) sealed-so)
+      ap (λ (v : Value). v .length) (seal-hash k (key k 6) (open₁ e .«div_data») (open₁ e .rnd1) (key k 3) (record { 0 = m }) p (replicate (lcOf k (length p) + 6) 0) sealed-so)
       ∙ length-keysHash k _ _ three
 
   -- the conditions of the session promise are met, where the load has that mode with such a record
   pub conditions : (at : ℕ) → at < 2 → m < 65536 → getD (one-two k three .given .modes) at pastMode .id ≡ record { 0 = m } →
       n ≡ getD (one-two k three .given .modes) at pastMode .len → Conditions (session k three p m n)
-  unfolding session exchange isInterface one-two load-of given set listed listNumber listOutput listCommand encoded shortEntries
+  unfolding session exchange past renewed isInterface one-two load-of given set listed listNumber listOutput listCommand encoded shortEntries TypedPlaces
   conditions at within small same-mode same-length =
+      let are = sets-renewed k three in
       record {
         place = 1;
         set = 1;
         place-listed = omega arith;
-        set-loaded = omega arith;
-        same-id = refl;
-        none-earlier = none-earlier;
-        same-key = refl;
+        set-loaded = rw are (omega arith);
+        same-id = rw are;
+        none-earlier = rw are none-earlier;
+        same-key = rw are;
         decrypted = decrypted;
         none-opens = none-opens;
         at = at;
@@ -252,9 +279,10 @@ module _ (k : ℕ) (three : keyLength k ≡ true) (p : List ℕ) (bytes : Bytes 
         ids-long = refl;
         ids-small = numbers-small;
         mode-small = small;
-        key-typed = key-of k 2 (omega arith);
+        key-typed = key-of k 6 (omega arith);
         rnd2-typed = key-of k 3 (omega arith);
         payload-bytes = bytes;
+        before-typed = (renewed-typed k, tt);
       }
 
 -- so the reader gets the four bytes that the load was given for mode 7, with no payload, which makes the shortest text; and the sixteen for mode 8
@@ -268,7 +296,8 @@ uuid-comes k three =
     session-promise (session k three (1 ∷ 2 ∷ 3 ∷ []) 8 16)
     (conditions k three (1 ∷ 2 ∷ 3 ∷ []) payload-small (omega (arith, length-most k three)) 8 16 1 (omega arith) (omega arith) refl refl) .record-returned
 
--- and those of demand 3, for two cards that hold other sets and differ in all their record lengths, and for two lists of other data
+-- and those of demand 3, for two cards that hold other sets and differ in all their record lengths, and for two lists of other data and, by T-07, other
+-- key sets, of which one list's are taken and the other's refused
 same-shill : (k : ℕ) (three : keyLength k ≡ true) → Agree (cardOf (one-two k three)) (cardOf (three-four k three))
 unfolding one-two three-four load-of mode given
 same-shill k three =
@@ -284,7 +313,9 @@ same-shill k three =
 unfoldable pub other-list : Call
 other-list = record { interface = 1; command = 0 ∷ 0x87 ∷ 0 ∷ 0 ∷ 6 ∷ 0x30 ∷ 4 ∷ 4 ∷ 2 ∷ 0 ∷ 7 ∷ 0 ∷ []; fresh = fresh; room = 256 }
 
-pub both-alike : (k : ℕ) (three : keyLength k ≡ true) → shapes (one-two k three) noTries (broken-off ∷ []) ≡ shapes (three-four k three) (record { contact = 3; contactless = 65535 }) (other-list ∷ [])
+pub both-alike : (k : ℕ) (three : keyLength k ≡ true) →
+    shapes (one-two k three) noTries (keySets (renewed k) ∷ command broken-off ∷ []) ≡ shapes (three-four k three) (record { contact = 3; contactless = 65535 }) (keySets [] ∷ command other-list ∷ [])
 unfolding frameOf part broken-off other-list
 both-alike k three =
-    demand-3 (one-two k three) .alike (three-four k three) noTries (record { contact = 3; contactless = 65535 }) (same-shill k three) (more (record { interfaces = refl; frames = refl; lengths = refl; fresh = refl; rooms = refl }) none)
+    demand-3 (one-two k three) .alike (three-four k three) noTries (record { contact = 3; contactless = 65535 }) (same-shill k three)
+    (more loads (more (calls (record { interfaces = refl; frames = refl; lengths = refl; fresh = refl; rooms = refl })) none))

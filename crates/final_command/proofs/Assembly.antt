@@ -28,7 +28,7 @@ use Rattle.plaid_types.specs.Cards.{noMode}
 use Rattle.plaid_types.specs.declared.OpModeId.{OpModeId}
 use Rattle.plaid_types.specs.declared.ModeSlot.{ModeSlot}
 use Rattle.plaid_types.specs.declared.Card.{Card}
-use Rattle.final_command.specs.Final.{keyOf, faKeyOf, diversified, blocksIn, textOf, hashedOf, keysHash, opMode, modeSteps, firstMode, modeOf, decipheredText, accepting, acceptsFinal, replyKey, sizeOf, replyText, replyBuffer, finalBytes, finalSteps, finalReply}
+use Rattle.final_command.specs.Final.{faKeyOf, diversified, blocksIn, textOf, hashedOf, keysHash, opMode, modeSteps, firstMode, modeOf, decipheredText, accepting, acceptsFinal, replyKey, sizeOf, replyText, replyBuffer, finalBytes, finalSteps, finalReply}
 use Rattle.final_command.specs.Told.{toldFinal}
 use Rattle.final_command.specs.Parts.{divSteps, derived, decipheredUnder, hashing, textSteps, openedText, replySteps, sent, bufferOf}
 use Rattle.final_command.specs.Laws.{length-keysHash, final-length, counted-modes}
@@ -74,7 +74,7 @@ deciphered-same key d z t y inv n sum m e qt qm qy =
 
 -- up to the hash
 pub opened-same : (c : Card) (d fa rnd : List ℕ) (l : ℕ) (k : Derived) (e : Expanded) (t : Deciphered) (h : Hashing) → l ≡ keyLengthOf c → length fa ≡ 32 → length rnd ≡ 32 →
-    fa ≡ cond (c .session .opened) (keyOf (c .sets) (c .session .id) (c .«shill_key»)) (c .«shill_key») →
+    fa ≡ cond (c .session .opened) (c .session .«fa_key») (c .«shill_key») →
     k ≡ derived (take l fa) (c .«div_data») 0 →
     e ≡ expanded (take l (k .key)) (k .sum) →
     t ≡ decipheredUnder (take l (k .key)) d (e .sum) →

@@ -14,7 +14,7 @@ use Rattle.diversification.specs.Laws.{length-diversified}
 use Rattle.plaid_types.specs.Keys.{lawful, keyLengthOf, wide, held}
 use Rattle.plaid_types.specs.KeyLaws.{lawful-one, lawful-most, held-wide}
 use Rattle.plaid_types.specs.declared.Card.{Card}
-use Rattle.final_command.specs.Final.{keyOf, faKeyOf, rnd1Of, diversified}
+use Rattle.final_command.specs.Final.{faKeyOf, rnd1Of, diversified}
 
 module _ (n : ℕ) {l : ℕ} (k : List ℕ) (q : l ≡ lawful n) where
   pub first-held : take l k ≡ held (lawful n) k
@@ -40,7 +40,7 @@ unfolding held part
 zeros-choice true l x h = refl
 zeros-choice false l x h = zeros-of 32 l h
 
-module _ (c : Card) (fa : List ℕ) (l : ℕ) (q : l ≡ keyLengthOf c) (qfa : fa ≡ cond (c .session .opened) (keyOf (c .sets) (c .session .id) (c .«shill_key»)) (c .«shill_key»)) where
+module _ (c : Card) (fa : List ℕ) (l : ℕ) (q : l ≡ keyLengthOf c) (qfa : fa ≡ cond (c .session .opened) (c .session .«fa_key») (c .«shill_key»)) where
   pub faKey-is : take l fa ≡ faKeyOf c
   unfolding faKeyOf
   faKey-is = first-held (c .«key_length») fa q ∙ ap (held (keyLengthOf c)) qfa

@@ -1,33 +1,22 @@
--- A turn of the loops over key set and mode slots, and what they have past the last slot. Assumes nothing.
+-- A turn of the loop over mode slots, and what it has past the last one. Assumes nothing.
 use mathlib.Core.Path.{_≡_, sym, ap, _∙_}
-use mathlib.Core.Bool.{true, cond}
+use mathlib.Core.Bool.{cond}
 use mathlib.Core.List.{List, [], _∷_}
-use Prim.Native.Nat.{ℕ, suc, _+_, _<_, _≤_}
+use Prim.Native.Nat.{ℕ, _+_, _<_, _≤_}
 use native.Mathlib.Numerals.{add-one}
 use native.Mathlib.Omega.{arith}
 use lib.Dec.{eqb}
 use lib.ListN.{length, getD, drop, drop-of-length-le}
 use lib.Seq.{drop-cons}
 use Rattle.work.specs.Steps.{comparison, sumFrom, counted}
-use Rattle.steps.specs.Made.{setMatched, modeMatched, modeComparison}
+use Rattle.steps.specs.Made.{modeMatched, modeComparison}
 use Rattle.plaid_types.specs.Cards.{noMode}
-use Rattle.plaid_types.specs.declared.KeySetId.{KeySetId}
 use Rattle.plaid_types.specs.declared.OpModeId.{OpModeId}
-use Rattle.plaid_types.specs.declared.KeySetSlot.{KeySetSlot}
 use Rattle.plaid_types.specs.declared.ModeSlot.{ModeSlot}
 use Rattle.steps.specs.Laws.{kept-last}
-use Rattle.final_command.specs.Final.{keyOf, modeSteps, firstMode}
+use Rattle.final_command.specs.Final.{modeSteps, firstMode}
 use Rattle.final_command.specs.Laws.{counted-modes}
 use Rattle.final_command.specs.declared.Found.{Found}
-
-pub key-turn : (l : List KeySetSlot) (none : KeySetSlot) (id : KeySetId) (other key : List ℕ) (i j : ℕ) → j < length l → i ≡ suc j → key ≡ keyOf (drop i l) id other →
-    cond (setMatched true id (getD l j none .held) (getD l j none .id)) (getD l j none .«fa_key») key ≡ keyOf (drop j l) id other
-unfolding keyOf
-key-turn l none id other key i j h e q = rw (q, e, drop-cons l j none h)
-
-pub key-start : (l : List KeySetSlot) (id : KeySetId) (other : List ℕ) (i : ℕ) → length l ≤ i → other ≡ keyOf (drop i l) id other
-unfolding keyOf
-key-start l id other i h = rw (drop-of-length-le l h)
 
 module _ (v : OpModeId) (l : List ModeSlot) (i : ℕ) where
   pub sum-turn : (s : ℕ) → i < length l →

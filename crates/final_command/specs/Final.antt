@@ -1,5 +1,5 @@
--- Document 01, "Final", with T-01 and T-04 of document 02.
-use mathlib.Core.Bool.{Bool, true, cond, _&&_}
+-- Document 01, "Final", with T-01, T-04 and T-07 of document 02.
+use mathlib.Core.Bool.{Bool, cond, _&&_}
 use mathlib.Core.List.{List, [], _∷_, _++_}
 use Prim.Native.Nat.{ℕ, suc, _+_, _-_, _*_, _/_, _%_}
 use lib.Dec.{eqb, ltb, leb}
@@ -12,28 +12,21 @@ use Rattle.padding.specs.Method2.{padded, end, rightly}
 use Rattle.work.specs.Steps.{Step}
 use Rattle.cbc.specs.Cbc.{encrypted, decrypted, zeros}
 use Rattle.cbc.specs.Steps.{enciphered, deciphered}
-use Rattle.steps.specs.Made.{setMatched, modeMatched, modeComparison, expansionStep, hashSteps}
+use Rattle.steps.specs.Made.{modeMatched, modeComparison, expansionStep, hashSteps}
 use Rattle.diversification.specs.Diversification.{diversifiedBy, diversifySteps}
 use Rattle.plaid_types.specs.Keys.{keyLengthOf, held}
 use Rattle.plaid_types.specs.Cards.{noSession, noMode, Reply}
-use Rattle.plaid_types.specs.declared.KeySetId.{KeySetId}
 use Rattle.plaid_types.specs.declared.OpModeId.{OpModeId}
-use Rattle.plaid_types.specs.declared.KeySetSlot.{KeySetSlot}
 use Rattle.plaid_types.specs.declared.ModeSlot.{ModeSlot}
 use Rattle.plaid_types.specs.declared.Card.{Card}
 
 abbrev pub least : ℕ → ℕ → ℕ
 least a b = cond (ltb a b) a b
 
--- the FAKey of a KeySetID, in the first of 32 bytes. A session's is always held; `other` stands for one that is not
-unfoldable pub keyOf : List KeySetSlot → KeySetId → List ℕ → List ℕ
-keyOf [] id other = other
-keyOf (k ∷ ks) id other = cond (setMatched true id (k .held) (k .id)) (k .«fa_key») (keyOf ks id other)
-
--- "With no session the shill AES key stands for FAKey and zeros for RND1." T-04: "A card and its reader have one key length L. RND1, RND2 and
--- KeysHash have L bytes each"
+-- "With no session the shill AES key stands for FAKey and zeros for RND1." T-07: "An open session now carries its FAKey instead of finding it by
+-- KeySetID". T-04: "A card and its reader have one key length L. RND1, RND2 and KeysHash have L bytes each"
 unfoldable pub faKeyOf : Card → List ℕ
-faKeyOf c = held (keyLengthOf c) (cond (c .session .opened) (keyOf (c .sets) (c .session .id) (c .«shill_key»)) (c .«shill_key»))
+faKeyOf c = held (keyLengthOf c) (cond (c .session .opened) (c .session .«fa_key») (c .«shill_key»))
 
 unfoldable pub rnd1Of : Card → List ℕ
 rnd1Of c = cond (c .session .opened) (held (keyLengthOf c) (c .session .rnd1)) (replicate (keyLengthOf c) 0)

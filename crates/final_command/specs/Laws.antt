@@ -5,7 +5,7 @@ use mathlib.Core.List.{List, [], _∷_}
 use Prim.Native.Nat.{ℕ, zero, suc, _+_, _-_, _*_, _/_, _%_, _≤_}
 use native.Mathlib.Omega.{arith}
 use lib.Dec.{eqb, ltb}
-use lib.ListN.{length, getD, replicate, take, drop, length-append, length-drop, length-replicate}
+use lib.ListN.{length, replicate, take, drop, length-append, length-drop, length-replicate}
 use lib.Seq.{take-at}
 use borrow.Author.Tests.{ltb-false}
 use Rattle.octets.specs.Bytes.{Bytes}
@@ -23,17 +23,14 @@ use Rattle.work.specs.Laws.{counted-append, times-none, times-more}
 use Rattle.cbc.specs.Cbc.{decrypted, zeros}
 use Rattle.cbc.specs.Steps.{enciphered, deciphered}
 use Rattle.cbc.specs.Lengths.{length-encrypted}
-use Rattle.steps.specs.Made.{setMatched, hashStep, hashSteps}
+use Rattle.steps.specs.Made.{hashStep, hashSteps}
 use Rattle.diversification.specs.Laws.{encipherments, counted-diversify}
 use Rattle.plaid_types.specs.Keys.{keyLengthOf, held}
 use Rattle.plaid_types.specs.KeyLaws.{lawful-one, lawful-most, length-held}
-use Rattle.plaid_types.specs.Cards.{noSet}
-use Rattle.plaid_types.specs.declared.KeySetId.{KeySetId}
-use Rattle.plaid_types.specs.declared.KeySetSlot.{KeySetSlot}
 use Rattle.plaid_types.specs.declared.OpModeId.{OpModeId}
 use Rattle.plaid_types.specs.declared.ModeSlot.{ModeSlot}
 use Rattle.plaid_types.specs.declared.Card.{Card}
-use Rattle.final_command.specs.Final.{keyOf, faKeyOf, rnd1Of, diversified, blocksIn, textOf, hashedOf, keysHash, modeSteps, replyKey, sizeOf, bodyOf, replyBuffer, finalBytes, finalSteps, finalReply}
+use Rattle.final_command.specs.Final.{faKeyOf, rnd1Of, diversified, blocksIn, textOf, hashedOf, keysHash, modeSteps, replyKey, sizeOf, bodyOf, replyBuffer, finalBytes, finalSteps, finalReply}
 
 -- "Answer length: .. 16B"
 pub final-length : (c : Card) (d fresh : List ℕ) → length (finalReply c d fresh .bytes) ≡ 16 * sizeOf c
@@ -104,20 +101,15 @@ pub length-keysHash : (c : Card) (d : List ℕ) → length (keysHash c d) ≡ ke
 unfolding keysHash
 length-keysHash c d = length-part (sha256 (hashedOf c d)) 0 (keyLengthOf c) (omega (arith, lawful-most (c .«key_length»), length-sha256 (hashedOf c d)))
 
--- 32 bytes each hold the keys and RND1 of a card
+-- 32 bytes each hold the shill key of a card, and RND1 and FAKey of its session
 pub record Stored (c : Card) : Type 0 where
-  pub sets : (i : ℕ) → length (getD (c .sets) i noSet .«fa_key») ≡ 32
   pub shill : length (c .«shill_key») ≡ 32
   pub rnd1 : length (c .session .rnd1) ≡ 32
+  pub key : length (c .session .«fa_key») ≡ 32
 
 choice-long : (t : Bool) (n : ℕ) (x y : List ℕ) → length x ≡ n → length y ≡ n → length (cond t x y) ≡ n
 choice-long true n x y hx hy = hx
 choice-long false n x y hx hy = hy
-
-length-keyOf : (ks : List KeySetSlot) (id : KeySetId) (other : List ℕ) → ((i : ℕ) → length (getD ks i noSet .«fa_key») ≡ 32) → length other ≡ 32 → length (keyOf ks id other) ≡ 32
-unfolding keyOf
-length-keyOf [] id other h ho = ho
-length-keyOf (k ∷ ks) id other h ho = choice-long (setMatched true id (k .held) (k .id)) 32 (k .«fa_key») (keyOf ks id other) (h 0) (length-keyOf ks id other (λ i. h (suc i)) ho)
 
 -- the keys have L bytes each, too
 module _ (c : Card) (s : Stored c) where
@@ -127,10 +119,8 @@ module _ (c : Card) (s : Stored c) where
   pub length-faKey : length (faKeyOf c) ≡ keyLengthOf c
   unfolding faKeyOf
   length-faKey =
-      let set : List ℕ = keyOf (c .sets) (c .session .id) (c .«shill_key») in
-      let h : length (cond (c .session .opened) set (c .«shill_key»)) ≡ 32 =
-      choice-long (c .session .opened) 32 set (c .«shill_key») (length-keyOf (c .sets) (c .session .id) (c .«shill_key») (s .sets) (s .shill)) (s .shill) in
-      length-held (keyLengthOf c) (cond (c .session .opened) set (c .«shill_key»)) (omega (arith, most))
+      let h = choice-long (c .session .opened) 32 (c .session .«fa_key») (c .«shill_key») (s .key) (s .shill) in
+      length-held (keyLengthOf c) (cond (c .session .opened) (c .session .«fa_key») (c .«shill_key»)) (omega (arith, most))
 
   pub length-rnd1 : length (rnd1Of c) ≡ keyLengthOf c
   unfolding rnd1Of

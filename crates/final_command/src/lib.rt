@@ -1,8 +1,6 @@
 //! The final command of a card (document 01, "Final"). Every step is always made, in one order; what they find is judged behind them.
 use plaid_types::Answer;
 use plaid_types::Card;
-use plaid_types::KeySetId;
-use plaid_types::KeySetSlot;
 use plaid_types::ModeSlot;
 use plaid_types::OpModeId;
 use plaid_types::Value;
@@ -20,10 +18,9 @@ ghost use Rattle.key_expansion.specs.Schedule.{fifteen};
 ghost use Rattle.aes.specs.Aes.{aesUnder};
 ghost use Rattle.work.specs.Steps.{comparison, counted, sumFrom};
 ghost use Rattle.cbc.specs.Cbc.{encrypted, zeros};
-ghost use Rattle.steps.specs.Made.{setMatched};
 ghost use Rattle.plaid_types.specs.Keys.{keyLengthOf, held};
 ghost use Rattle.plaid_types.specs.Cards.{noMode};
-ghost use Rattle.final_command.specs.Final.{least, keyOf, opMode, modeSteps, firstMode, accepting, acceptsFinal, recordOf, sizeOf, replyText, finalReply};
+ghost use Rattle.final_command.specs.Final.{least, opMode, modeSteps, firstMode, accepting, acceptsFinal, recordOf, sizeOf, replyText, finalReply};
 ghost use Rattle.final_command.specs.Parts.{derived, decipheredUnder, hashing, openedText, sealing, bufferOf, sent};
 ghost use Rattle.final_command.specs.Told.{toldFinal};
 
@@ -33,46 +30,14 @@ fn choose(t: bool, a: [u8; Value::MOST], b: [u8; Value::MOST]) -> [u8; Value::MO
     if t { a } else { b }
 }
 
-fn held_key(k: KeySetSlot, id: KeySetId, other: [u8; Value::MOST]) -> [u8; Value::MOST]
-    ensures { λ r. ⌜ r ≡ cond (setMatched true id (k .held) (k .id)) (k .«fa_key») other ⌝ }
-{
-    let w = k.id;
-    let key = k.fa_key;
-    if k.held {
-        if id.0 == w.0 {
-            return key;
-        }
-    }
-    other
-}
-
-// The first slot's key is taken last.
-fn key_of(
-    sets: [KeySetSlot; Card::KEY_SETS],
-    id: KeySetId,
-    other: [u8; Value::MOST],
-) -> [u8; Value::MOST]
-    ensures { λ r. ⌜ r ≡ keyOf sets id other ⌝ }
-{
-    let mut key = other;
-    let mut i = Card::KEY_SETS;
-    while 0 < i {
-        i -= 1;
-        let k = held_key(sets[i], id, key);
-        key = k;
-    }
-    key
-}
-
-// The FAKey is the first L of these bytes.
+// The session's own FAKey (T-07), or the shill key: the first L of these bytes.
 fn fa_key(card: Card) -> [u8; Value::MOST]
-    ensures { λ r. ⌜ r ≡ cond (card .session .opened) (keyOf (card .sets) (card .session .id) (card .«shill_key»)) (card .«shill_key») ⌝ }
+    ensures { λ r. ⌜ r ≡ cond (card .session .opened) (card .session .«fa_key») (card .«shill_key») ⌝ }
 {
     let s = card.session;
-    let id = s.id;
+    let key = s.fa_key;
     let shill = card.shill_key;
-    let sets = card.sets;
-    choose(s.opened, key_of(sets, id, shill), shill)
+    choose(s.opened, key, shill)
 }
 
 // The diversified key, in the first of its bytes, and what was made for it.

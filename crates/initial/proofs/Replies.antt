@@ -87,7 +87,7 @@ module _ (c : Card) (d fresh : List ℕ) {f : Found} {l : ℕ} (lf : length fres
       (o : List ℕ) (x : KeySetSlot) {e₁ e₂ : List ℕ} {s : Session}
       → length (c .sets) ≡ 8
       → f .at < 8
-      → s ≡ openedWith (getD (c .sets) (f .at) x .id) (part fresh 0 l)
+      → s ≡ openedWith (getD (c .sets) (f .at) x) (part fresh 0 l)
       → e₁ ≡ over o 0 (headOf l fresh)
       → e₂ ≡ over e₁ (256 - str1Length l) (str1 (getD (c .sets) (f .at) x .id) (c .«div_data») (part fresh 0 l))
       → (_≡_ {A = Initial}
@@ -95,8 +95,9 @@ module _ (c : Card) (d fresh : List ℕ) {f : Found} {l : ℕ} (lf : length fres
       (toldInitial (initialReply c d fresh)))
       × (e₂ ≡ over o 0 (initialReply c d fresh .bytes))
   accepted o x {e₁} {e₂} {s} ls h sn w₁ w₂ =
-      let i : KeySetId = getD (c .sets) (f .at) x .id in
-      let sl : s ≡ openedWith i (part fresh 0 L) = sn ∙ ap (λ (n : ℕ). openedWith i (part fresh 0 n)) el in
+      let slot : KeySetSlot = getD (c .sets) (f .at) x in
+      let i : KeySetId = slot .id in
+      let sl : s ≡ openedWith slot (part fresh 0 L) = sn ∙ ap (λ (n : ℕ). openedWith slot (part fresh 0 n)) el in
       let wl = w₂ ∙ ap (λ (n : ℕ). over e₁ (256 - str1Length n) (str1 i (c .«div_data») (part fresh 0 n))) el in
       let k : getD (c .sets) (f .at) x ≡ getD (c .sets) (f .at) noSet = getD-there (c .sets) (f .at) x noSet (omega arith) in
       let r : Reply = acceptedInitial c d fresh (getD (c .sets) (f .at) noSet) in

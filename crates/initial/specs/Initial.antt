@@ -1,4 +1,4 @@
--- Document 01, "Initial".
+-- Document 01, "Initial", with T-04 and T-07 of document 02.
 use mathlib.Core.Bool.{Bool, true, cond, _&&_}
 use mathlib.Core.List.{List, [], _∷_, _++_}
 use Prim.Native.Nat.{ℕ, zero, suc, _/_, _%_}
@@ -58,9 +58,9 @@ str1 id div rnd1 = id .0 / 256 ∷ id .0 % 256 ∷ (div ++ (rnd1 ++ rnd1))
 unfoldable pub blockOf : ℕ → List ℕ → List ℕ → List ℕ
 blockOf l fresh text = (0 ∷ 2 ∷ (padBytes l fresh ++ (0 ∷ []))) ++ text
 
--- a session that is open with a key set and RND1
-abbrev pub openedWith : KeySetId → List ℕ → Session
-openedWith id rnd1 = record { opened = true; id = id; rnd1 = wide rnd1 }
+-- a session that is open with a key set and RND1. T-07: "An open session now carries its FAKey instead of finding it by KeySetID"
+abbrev pub openedWith : KeySetSlot → List ℕ → Session
+openedWith k rnd1 = record { opened = true; id = k .id; rnd1 = wide rnd1; «fa_key» = k .«fa_key» }
 
 -- "Accepted: .. RND1 is the first 16 of F; handle of that key set; session opens, replacing any other." T-04: "RND1, RND2 and KeysHash have L bytes
 -- each"
@@ -70,7 +70,7 @@ acceptedInitial c d fresh k =
       handle = k .handle;
       bytes = blockOf (keyLengthOf c) fresh (str1 (k .id) (c .«div_data») (part fresh 0 (keyLengthOf c)));
       steps = initialSteps c d;
-      session = openedWith (k .id) (part fresh 0 (keyLengthOf c));
+      session = openedWith k (part fresh 0 (keyLengthOf c));
     }
 
 -- "Refused ..: F stands for STR1, shill handle, no session."

@@ -94,3 +94,13 @@ session-cases c d fresh false lf = refl
 pub initial-rnd1 : (c : Card) (d fresh : List ℕ) → length fresh ≡ 253 → length (initialReply c d fresh .session .rnd1) ≡ 32
 unfolding initialReply
 initial-rnd1 c d fresh lf = session-cases c d fresh (acceptsInitial c d) lf
+
+-- T-07: and the FAKey, where 32 bytes hold those of the table
+key-cases : (c : Card) (d fresh : List ℕ) (t : Bool) → ((i : ℕ) → length (getD (c .sets) i noSet .«fa_key») ≡ 32) →
+    length (cond t (acceptedInitial c d fresh (getD (c .sets) (slotOf c d) noSet)) (refusedInitial c d fresh) .session .«fa_key») ≡ 32
+key-cases c d fresh true h = h (slotOf c d)
+key-cases c d fresh false h = refl
+
+pub initial-key : (c : Card) (d fresh : List ℕ) → ((i : ℕ) → length (getD (c .sets) i noSet .«fa_key») ≡ 32) → length (initialReply c d fresh .session .«fa_key») ≡ 32
+unfolding initialReply
+initial-key c d fresh h = key-cases c d fresh (acceptsInitial c d) h

@@ -132,31 +132,35 @@ fn str1(id: KeySetId, div: [u8; 16], rnd1: &[u8], out: &mut [u8])
     octets::copy_at(out, at + 18 + rnd1.len(), rnd1);
 }
 
-// An accepted command's STR1, and the session that it opens. RND1 is copied once, into the session's 32 bytes, and STR1 is written from there.
-fn opened(l: usize, id: KeySetId, div: [u8; 16], fresh: &[u8], out: &mut [u8]) -> Session
+// An accepted command's STR1, and the session that it opens, with the slot's FAKey (T-07). RND1 is copied once, into the session's 32 bytes, and
+// STR1 is written from there.
+fn opened(l: usize, k: KeySetSlot, div: [u8; 16], fresh: &[u8], out: &mut [u8]) -> Session
     requires { ⌜ (l ≤ 32) × (length (now fresh) ≡ 253) × (256 ≤ length (now out)) ⌝ }
-    ensures { λ r. ⌜ r ≡ openedWith id (part (now (fresh .entry)) 0 l) ⌝ }
-    ensures { λ _. ⌜ now (out .exit) ≡ over (now (out .entry)) (256 - str1Length l) (str1 id div (part (now (fresh .entry)) 0 l)) ⌝ }
+    ensures { λ r. ⌜ r ≡ openedWith k (part (now (fresh .entry)) 0 l) ⌝ }
+    ensures { λ _. ⌜ now (out .exit) ≡ over (now (out .entry)) (256 - str1Length l) (str1 (k .id) div (part (now (fresh .entry)) 0 l)) ⌝ }
 {
+    let id = k.id;
+    let fa_key = k.fa_key;
     let rnd1 = plaid_types::wide(octets::part_of(fresh, 0, l));
     str1(id, div, &rnd1[..l], out);
     Session {
         opened: true,
         id: id,
         rnd1: rnd1,
+        fa_key: fa_key,
     }
 }
 
 // The same. Of the shortest keys the compiler is told the length, so that it knows how many bytes it writes.
-fn opened_of_length(l: usize, id: KeySetId, div: [u8; 16], fresh: &[u8], out: &mut [u8]) -> Session
+fn opened_of_length(l: usize, k: KeySetSlot, div: [u8; 16], fresh: &[u8], out: &mut [u8]) -> Session
     requires { ⌜ (l ≤ 32) × (length (now fresh) ≡ 253) × (256 ≤ length (now out)) ⌝ }
-    ensures { λ r. ⌜ r ≡ openedWith id (part (now (fresh .entry)) 0 l) ⌝ }
-    ensures { λ _. ⌜ now (out .exit) ≡ over (now (out .entry)) (256 - str1Length l) (str1 id div (part (now (fresh .entry)) 0 l)) ⌝ }
+    ensures { λ r. ⌜ r ≡ openedWith k (part (now (fresh .entry)) 0 l) ⌝ }
+    ensures { λ _. ⌜ now (out .exit) ≡ over (now (out .entry)) (256 - str1Length l) (str1 (k .id) div (part (now (fresh .entry)) 0 l)) ⌝ }
 {
     if l == 16 {
-        return opened(16, id, div, fresh, out);
+        return opened(16, k, div, fresh, out);
     }
-    opened(l, id, div, fresh, out)
+    opened(l, k, div, fresh, out)
 }
 
 // What an initial command hands back beside the bytes of its answer.
@@ -181,14 +185,13 @@ pub fn run(card: Card, d: &[u8], fresh: &[u8], out: &mut [u8]) -> Initial
     let at = f.at;
     if at < Card::KEY_SETS {
         let k = sets[at];
-        let id = k.id;
         let div = card.div_data;
         return Initial {
             handle: k.handle,
             comparisons: f.count,
             length: Answer::INITIAL,
             sum: f.sum,
-            session: opened_of_length(l, id, div, fresh, out),
+            session: opened_of_length(l, k, div, fresh, out),
         };
     }
     octets::copy_at(

@@ -10,7 +10,7 @@ use Rattle.plaid_types.specs.Keys.{ofLength}
 use Rattle.plaid_types.specs.declared.Value.{Value}
 use Rattle.plaid_types.specs.declared.KeySet.{KeySet}
 use Rattle.plaid_types.specs.declared.Mode.{Mode}
-use Rattle.load.specs.Load.{miscounted, repeated, setIds, wrongKeys, withHandle, modesRefusal, refusal}
+use Rattle.load.specs.Load.{miscounted, repeated, setIds, wrongKeys, withHandle, modesRefusal, setsRefusal, refusal}
 
 -- a count
 pub count-none : (most n : ℕ) → n ≡ 0 → miscounted most n ≡ true
@@ -26,13 +26,27 @@ count-within most n e h = simp (ne-eqb n 0 e, le-ltb most n h)
 pub either-of : {a b p q r t : Bool} → r ≡ (a || b) → a ≡ p → b ≡ q → r ≡ t → (p || q) ≡ t
 either-of e x y z = sym (e ∙ ap₂ (λ (u v : Bool). u || v) x y) ∙ z
 
--- all of them
-pub answers : (l : ℕ) (sets : List KeySet) (n : ℕ) (modes : List Mode) (m area : ℕ) (key : Value) (handle : ℕ) {q s k t u : Bool} →
-    not (keyLength l) ≡ q →
+-- all of those of key sets
+pub answers : (l : ℕ) (sets : List KeySet) (n : ℕ) (other : Bool) (handle : ℕ) {s k t u : Bool} →
     miscounted 8 n ≡ s →
-    (wrongKeys l (take n sets) || not (ofLength l key)) ≡ k →
+    (wrongKeys l (take n sets) || other) ≡ k →
     repeated (setIds (take n sets)) ≡ t →
     withHandle handle (take n sets) ≡ u →
-    cond q 21 (cond s 1 (cond k 22 (cond t 2 (cond u 3 (modesRefusal modes m area))))) ≡ refusal l sets n modes m area key handle
-unfolding refusal
-answers l sets n modes m area key handle eq es ek et eu = simp (eq, es, ek, et, eu)
+    cond s 1 (cond k 22 (cond t 2 (cond u 3 0))) ≡ setsRefusal l sets n other handle
+unfolding setsRefusal
+answers l sets n other handle es ek et eu = simp (es, ek, et, eu)
+
+-- and then those behind them: a number that is not 0 is given, and for 0 the next
+module _ (l : ℕ) (sets : List KeySet) (n : ℕ) (modes : List Mode) (m area : ℕ) (key : Value) (handle : ℕ) where
+  pub no-length : not (keyLength l) ≡ true → 21 ≡ refusal l sets n modes m area key handle
+  unfolding refusal
+  no-length e = simp e
+
+  module _ (k : Bool) (r : ℕ) (e : not (keyLength l) ≡ false) (qk : k ≡ not (ofLength l key)) (q : r ≡ setsRefusal l sets n k handle) where
+    pub from-sets : (r ≡ 0 → ⊥) → r ≡ refusal l sets n modes m area key handle
+    unfolding refusal
+    from-sets z = rw (e, ← qk, ← q, ne-eqb r 0 z)
+
+    pub from-modes : r ≡ 0 → modesRefusal modes m area ≡ refusal l sets n modes m area key handle
+    unfolding refusal
+    from-modes z = rw (e, ← qk, ← q, eq-eqb r 0 z)

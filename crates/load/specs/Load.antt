@@ -1,4 +1,4 @@
--- Document 01, "The card", of a load, and of "When an operation declines", the faults of a load; with T-01 and T-04 of document 02.
+-- Document 01, "The card", of a load, and of "When an operation declines", the faults of a load; with T-01, T-04 and T-07 of document 02.
 use mathlib.Core.Bool.{Bool, true, false, cond, not, _||_}
 use mathlib.Core.List.{List, [], _∷_, _++_, map}
 use Prim.Native.Nat.{ℕ, _+_, _-_}
@@ -77,17 +77,25 @@ modesRefusal modes m area =
     (cond (ltb 1024 area || some (badRecord area) (take m modes)) 6
     0))
 
--- "1 count of key sets; 2 repeated KeySetID; 3 a set with the shill handle", of the first n of `sets`, then those above. "Where several apply, the
--- first in the order written is given". T-04: "21 L is none of the three, first at load ..; 22 a key .. not of L bytes, directly after 1", the shill
--- key too
-unfoldable pub refusal : ℕ → List KeySet → ℕ → List Mode → ℕ → ℕ → Value → ℕ → ℕ
-refusal l sets n modes m area key handle =
-    cond (not (keyLength l)) 21
-    (cond (miscounted 8 n) 1
-    (cond (wrongKeys l (take n sets) || not (ofLength l key)) 22
+-- T-07: "a first one's key set checks (1, 22, 2, 3)", of the first n of `sets`: "1 count of key sets; 2 repeated KeySetID; 3 a set with the shill
+-- handle", and by T-04 "22 a key .. not of L bytes, directly after 1". `other` is whether a key that is given beside the sets is not. 0 where none
+-- applies
+unfoldable pub setsRefusal : ℕ → List KeySet → ℕ → Bool → ℕ → ℕ
+setsRefusal l sets n other handle =
+    cond (miscounted 8 n) 1
+    (cond (wrongKeys l (take n sets) || other) 22
     (cond (repeated (setIds (take n sets))) 2
     (cond (withHandle handle (take n sets)) 3
-    (modesRefusal modes m area)))))
+    0)))
+
+-- "Where several apply, the first in the order written is given": a number, or where it is 0 the next
+abbrev pub orElse : ℕ → ℕ → ℕ
+orElse a b = cond (eqb a 0) b a
+
+-- the checks of the key sets, then those above. T-04: "21 L is none of the three, first at load ..; 22 a key .. not of L bytes", the shill key too
+unfoldable pub refusal : ℕ → List KeySet → ℕ → List Mode → ℕ → ℕ → Value → ℕ → ℕ
+refusal l sets n modes m area key handle =
+    cond (not (keyLength l)) 21 (orElse (setsRefusal l sets n (not (ofLength l key)) handle) (modesRefusal modes m area))
 
 -- "Key sets and modes fill their slots from the first on, in the order given; the rest are empty": l, and d behind it up to n. Shut: with a
 -- numeral for n the library's own replicate computes to as many elements
@@ -98,6 +106,10 @@ filled n d l = l ++ replicate (n - length l) d
 abbrev pub setSlot : KeySet → KeySetSlot
 setSlot k = record { held = true; id = k .id; handle = k .handle; «fa_key» = wide (bytesOf (k .«fa_key»)) }
 
+-- the table of key sets
+unfoldable pub tableOf : List KeySet → List KeySetSlot
+tableOf sets = filled 8 noSet (map setSlot sets)
+
 abbrev pub modeSlot : Mode → ModeSlot
 modeSlot m = record { held = true; id = m .id; start = m .start; len = m .len }
 
@@ -107,7 +119,7 @@ modeSlot m = record { held = true; id = m .id; start = m .start; len = m .len }
 unfoldable pub loadedCard : ℕ → List KeySet → List Mode → List ℕ → List ℕ → Value → ℕ → Card
 loadedCard l sets modes area div key handle =
     record {
-      sets = filled 8 noSet (map setSlot sets);
+      sets = tableOf sets;
       modes = filled 16 noMode (map modeSlot modes);
       area = filled 1024 0 area;
       «div_data» = div;

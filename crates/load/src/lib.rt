@@ -30,15 +30,17 @@ ghost use Rattle.load.specs.Load.{
   larger,
   largestSize,
   modesRefusal,
+  setsRefusal,
   refusal,
   filled,
   setSlot,
+  tableOf,
   modeSlot,
   blankCard,
   loaded,
 };
 
-// The number of the fault, and a blank card; or 0, and the card.
+// The number of the fault, and a blank card, or by T-07 the card as it was; or 0, and the card.
 #[repr(C)]
 pub struct Loaded {
     pub number: u8,
@@ -206,6 +208,30 @@ fn modes_fault(modes: [Mode; Card::MODES], n: usize, area: usize) -> u8
     0
 }
 
+// The checks of the first n key sets; `other` is whether a key that is given beside them has another length.
+pub fn sets_fault(l: usize, sets: [KeySet; Card::KEY_SETS], n: usize, other: bool, handle: u8) -> u8
+    ensures { λ r. ⌜ r ≡ setsRefusal l sets n other handle ⌝ }
+{
+    if n == 0 {
+        return 1;
+    }
+    if Card::KEY_SETS < n {
+        return 1;
+    }
+    let wrong = wrong_sets(l, sets, n, handle);
+    if either(wrong.key, other) {
+        return 22;
+    }
+    let ids = set_ids(sets);
+    if repeats(&ids, n) {
+        return 2;
+    }
+    if wrong.handle {
+        return 3;
+    }
+    0
+}
+
 fn fault(
     l: usize,
     sets: [KeySet; Card::KEY_SETS],
@@ -221,23 +247,9 @@ fn fault(
     if !key_expansion::is_key_length(l) {
         return 21;
     }
-    if n == 0 {
-        return 1;
-    }
-    if Card::KEY_SETS < n {
-        return 1;
-    }
-    let wrong = wrong_sets(l, sets, n, handle);
-    let shill = wrong_length(l, key);
-    if either(wrong.key, shill) {
-        return 22;
-    }
-    let ids = set_ids(sets);
-    if repeats(&ids, n) {
-        return 2;
-    }
-    if wrong.handle {
-        return 3;
+    let number = sets_fault(l, sets, n, wrong_length(l, key), handle);
+    if number != 0 {
+        return number;
     }
     modes_fault(modes, m, area)
 }
@@ -311,9 +323,10 @@ fn mode_slot(m: Mode) -> ModeSlot
     }
 }
 
-fn set_slots(sets: [KeySet; Card::KEY_SETS], n: usize) -> [KeySetSlot; Card::KEY_SETS]
+// The table of the first n key sets.
+pub fn set_slots(sets: [KeySet; Card::KEY_SETS], n: usize) -> [KeySetSlot; Card::KEY_SETS]
     requires { ⌜ (n ≤ 8) × ((i : ℕ) → i < n → (16 ≤ getD sets i pastSet .«fa_key» .length) × (getD sets i pastSet .«fa_key» .length ≤ 32)) ⌝ }
-    ensures { λ r. ⌜ r ≡ filled 8 noSet (map setSlot (take n sets)) ⌝ }
+    ensures { λ r. ⌜ r ≡ tableOf (take n sets) ⌝ }
 {
     let mut slots = empty_sets();
     let mut i: usize = 0;

@@ -5,7 +5,6 @@ use Prim.Native.Nat.{ℕ}
 use lib.ListN.{length, take, drop, take-append-drop}
 use lib.Seq.{take-append-seam}
 use Rattle.octets.specs.Lists.{part}
-use Rattle.plaid_types.specs.Keys.{noValue}
 use Rattle.plaid_types.specs.declared.KeySet.{KeySet}
 use Rattle.load.specs.Load.{loaded}
 use Rattle.load.specs.declared.Loaded.{Loaded}
@@ -13,10 +12,6 @@ use Rattle.reader_accept.specs.Accept.{recordPart}
 use Rattle.reader_accept.specs.declared.Accepted.{Accepted}
 use Rattle.plaid.specs.declared.Given.{Given}
 use Rattle.plaid.specs.declared.Part.{Part}
-
--- what stands for a set where the list has none
-abbrev pub blankSet : KeySet
-blankSet = record { id = record { 0 = 0 }; handle = 0; «fa_key» = noValue }
 
 -- a load of a list of key sets, what is given beside it, and a record area
 unfoldable pub loadOf : List KeySet → Given → List ℕ → Loaded

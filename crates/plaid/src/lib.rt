@@ -1,5 +1,6 @@
 //! The C interface: structs by value and lent slices. A slice passes as a pointer and then a length.
 use conversion::Converted;
+use key_set_list::Eight;
 use load::Loaded;
 use plaid_types::Card;
 use plaid_types::KeySet;
@@ -15,8 +16,7 @@ use reader_list::Written;
 use reader_open::Opened;
 use reader_seal::Sealed;
 ghost use mathlib.Core.Path.{_≡_};
-ghost use mathlib.Core.List.{[], _∷_};
-ghost use lib.ListN.{length, getD};
+ghost use lib.ListN.{length};
 ghost use Rattle.octets.specs.Lists.{over};
 ghost use Rattle.card.specs.Command.{outcome, answerBytes};
 ghost use Rattle.reader_list.specs.List.{listed, listOutput};
@@ -24,10 +24,11 @@ ghost use Rattle.reader_open.specs.Open.{opened};
 ghost use Rattle.reader_seal.specs.Seal.{sealedOf, sealOutput};
 ghost use Rattle.reader_accept.specs.Accept.{acceptedOf, workAfter};
 ghost use Rattle.load.specs.Load.{loaded};
+ghost use Rattle.key_change.specs.KeyChange.{changed, setsLoaded};
 ghost use Rattle.conversion.specs.Conversion.{converted, outputAfter};
 ghost use Rattle.wiegand.specs.Wiegand as wiegand;
 ghost use Rattle.uuid.specs.Uuid as uuid;
-ghost use Rattle.plaid.specs.Interface.{blankSet, loadOf, recordAt};
+ghost use Rattle.plaid.specs.Interface.{loadOf, recordAt};
 
 // What a load is given beside the key sets and the record area. What stands past the count is not looked at.
 #[repr(C)]
@@ -40,54 +41,18 @@ pub struct Given {
     pub shill_handle: u8,
 }
 
-// What is handed on where the list has no set.
-fn blank_set() -> KeySet
-    ensures { λ r. ⌜ r ≡ blankSet ⌝ }
-{
-    KeySet {
-        id: KeySetId(0),
-        handle: 0,
-        fa_key: Value {
-            length: 0,
-            bytes: [0u8; Value::MOST],
-        },
-    }
-}
-
-// A key set of the list, or `d` past its end.
-fn pick(s: &[KeySet], i: usize, d: KeySet) -> KeySet
-    ensures { λ r. ⌜ r ≡ getD (now (s .entry)) i d ⌝ }
-{
-    if i < s.len() {
-        return s[i];
-    }
-    d
-}
-
 // A load of the first eight key sets of a list of so many: what follows is covered, and sees no lent structs.
-fn load_eight(
-    set_count: usize,
-    k0: KeySet,
-    k1: KeySet,
-    k2: KeySet,
-    k3: KeySet,
-    k4: KeySet,
-    k5: KeySet,
-    k6: KeySet,
-    k7: KeySet,
-    given: Given,
-    area: &[u8],
-) -> Loaded
-    ensures { λ r. ⌜ r ≡ loaded (given .«key_length») (k0 ∷ k1 ∷ k2 ∷ k3 ∷ k4 ∷ k5 ∷ k6 ∷ k7 ∷ []) «set_count» (given .modes) (given .«mode_count») (now (area .entry)) (given .«div_data») (given .«shill_key») (given .«shill_handle») ⌝ }
+fn load_eight(of: Eight, given: Given, area: &[u8]) -> Loaded
+    ensures { λ r. ⌜ r ≡ loaded (given .«key_length») (of .sets) (of .count) (given .modes) (given .«mode_count») (now (area .entry)) (given .«div_data») (given .«shill_key») (given .«shill_handle») ⌝ }
 {
-    let sets = [k0, k1, k2, k3, k4, k5, k6, k7];
+    let sets = of.sets;
     let modes = given.modes;
     let div_data = given.div_data;
     let shill_key = given.shill_key;
     load::load(
         given.key_length,
         sets,
-        set_count,
+        of.count,
         modes,
         given.mode_count,
         area,
@@ -102,16 +67,24 @@ fn load_eight(
 pub extern "C" fn plaid_load(sets: &[KeySet], given: Given, area: &[u8]) -> Loaded
     ensures { λ r. ⌜ r ≡ loadOf (now (sets .entry)) given (now (area .entry)) ⌝ }
 {
-    let none = blank_set();
-    let k0 = pick(sets, 0, none);
-    let k1 = pick(sets, 1, none);
-    let k2 = pick(sets, 2, none);
-    let k3 = pick(sets, 3, none);
-    let k4 = pick(sets, 4, none);
-    let k5 = pick(sets, 5, none);
-    let k6 = pick(sets, 6, none);
-    let k7 = pick(sets, 7, none);
-    load_eight(sets.len(), k0, k1, k2, k3, k4, k5, k6, k7, given, area)
+    let of = key_set_list::first_eight(sets);
+    load_eight(of, given, area)
+}
+
+fn change_eight(of: Eight, card: Card) -> Loaded
+    ensures { λ r. ⌜ r ≡ changed card (of .sets) (of .count) ⌝ }
+{
+    let sets = of.sets;
+    key_change::change(card, sets, of.count)
+}
+
+// A load of key sets onto a card (T-07), from the caller's list, lent.
+#[no_mangle]
+pub extern "C" fn plaid_load_sets(sets: &[KeySet], card: Card) -> Loaded
+    ensures { λ r. ⌜ r ≡ setsLoaded card (now (sets .entry)) ⌝ }
+{
+    let of = key_set_list::first_eight(sets);
+    change_eight(of, card)
 }
 
 #[no_mangle]

@@ -1,4 +1,4 @@
--- Document 01, "The card": the state, and what a command that is not declined means; with T-06 of document 02.
+-- Document 01, "The card": the state, and what a command that is not declined means; with T-06 and T-07 of document 02.
 use mathlib.Core.Bool.{false}
 use mathlib.Core.List.{List}
 use Prim.Native.Nat.{ℕ}
@@ -10,9 +10,9 @@ use Rattle.plaid_types.specs.declared.Session.{Session}
 use Rattle.plaid_types.specs.declared.Tries.{Tries}
 use Rattle.plaid_types.specs.declared.Card.{Card}
 
--- "State: no session, or an open one with KeySetID and RND1. A new card has none."
+-- "State: no session, or an open one with KeySetID and RND1. A new card has none." T-07: "An open session now carries its FAKey"
 abbrev pub noSession : Session
-noSession = record { opened = false; id = record { 0 = 0 }; rnd1 = replicate 32 0 }
+noSession = record { opened = false; id = record { 0 = 0 }; rnd1 = replicate 32 0; «fa_key» = replicate 32 0 }
 
 -- an empty slot
 abbrev pub noSet : KeySetSlot
@@ -51,6 +51,22 @@ withTries c t =
       «reply_size» = c .«reply_size»;
       session = c .session;
       tries = t;
+    }
+
+-- T-07: "A new load of key sets .. changes only the table"
+abbrev pub withSets : Card → List KeySetSlot → Card
+withSets c t =
+    record {
+      sets = t;
+      modes = c .modes;
+      area = c .area;
+      «div_data» = c .«div_data»;
+      «shill_key» = c .«shill_key»;
+      «shill_handle» = c .«shill_handle»;
+      «key_length» = c .«key_length»;
+      «reply_size» = c .«reply_size»;
+      session = c .session;
+      tries = c .tries;
     }
 
 -- what a command that is not declined means: the key handle, the answer bytes, the steps in order, and the session afterwards.

@@ -5,7 +5,7 @@ ghost use Prim.Native.Nat.{_+_, _≤_};
 ghost use lib.ListN.{length};
 ghost use Rattle.plaid_types.specs.Keys.{lawful, wide, valueOf, noValue, str1Length};
 ghost use Rattle.plaid_types.specs.Tries.{isInterface, noTries, oneMore, triesAfter};
-ghost use Rattle.plaid_types.specs.Cards.{noSession, withSession, withTries};
+ghost use Rattle.plaid_types.specs.Cards.{noSession, withSession, withTries, withSets};
 
 // The two kinds of identifier are types of their own: a key set number is never taken where a mode number belongs.
 #[repr(C)]
@@ -106,12 +106,13 @@ pub struct ModeSlot {
     pub len: usize,
 }
 
-// No session, or an open one with KeySetID and RND1.
+// No session, or an open one with KeySetID, RND1 and, by T-07, its FAKey.
 #[repr(C)]
 pub struct Session {
     pub opened: bool,
     pub id: KeySetId,
     pub rnd1: [u8; Value::MOST],
+    pub fa_key: [u8; Value::MOST],
 }
 
 impl Session {
@@ -123,6 +124,7 @@ impl Session {
             opened: false,
             id: KeySetId(0),
             rnd1: [0u8; Value::MOST],
+            fa_key: [0u8; Value::MOST],
         }
     }
 
@@ -132,9 +134,11 @@ impl Session {
     {
         let id = KeySetId(0);
         let rnd1 = [0u8; Value::MOST];
+        let fa_key = [0u8; Value::MOST];
         self.opened = false;
         self.id = id;
         self.rnd1 = rnd1;
+        self.fa_key = fa_key;
         self
     }
 }
@@ -237,6 +241,14 @@ impl Card {
     {
         self.session = s;
         self.tries = t;
+        self
+    }
+
+    // The same card with another table of key sets (T-07).
+    pub fn with_sets(mut self, sets: [KeySetSlot; Card::KEY_SETS]) -> Card
+        ensures { λ r. ⌜ r ≡ withSets self sets ⌝ }
+    {
+        self.sets = sets;
         self
     }
 }

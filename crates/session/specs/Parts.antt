@@ -1,37 +1,32 @@
--- What the session promise is put together from: a call that is not declined, the block that opens, and the FAKey of a held set. Assumes nothing.
+-- What the session promise is put together from: a call that is not declined, and the block that opens. Assumes nothing.
 use mathlib.Core.Path.{_≡_, refl, sym, ap, _∙_}
 use mathlib.Core.Bool.{Bool, true, false, cond, _&&_, not, true≢false}
 use mathlib.Core.List.{List, [], _∷_, _++_, append-assoc}
-use Prim.Native.Nat.{ℕ, zero, suc, _+_, _/_, _%_, _<_, _≤_}
-use native.Mathlib.Nat.{not-suc-le-zero, le-of-suc-le-suc}
+use Prim.Native.Nat.{ℕ, _+_, _/_, _%_, _<_, _≤_}
 use native.Mathlib.Omega.{arith}
 use lib.Dec.{eqb, ltb}
-use lib.ListN.{length, getD, length-append}
-use borrow.Author.Tests.{eqb-true, eq-eqb, ltb-true, ltb-false}
+use lib.ListN.{length, length-append}
+use borrow.Author.Tests.{eq-eqb, ltb-true, ltb-false}
 use Rattle.octets.specs.Lists.{part}
-use Rattle.octets.specs.Same.{same-of, split-and}
-use Rattle.steps.specs.Made.{setMatched}
+use Rattle.octets.specs.Same.{same-of}
 use Rattle.frame.specs.Frame.{frameOf, insOf, initialIns, statusOf, dataOf}
 use Rattle.frame.specs.Declines.{padBytes, noZero, verdict}
 use Rattle.frame.specs.Laws.{length-pads}
 use Rattle.frame.specs.declared.Verdict.{Verdict}
 use Rattle.plaid_types.specs.Keys.{keyLengthOf}
 use Rattle.plaid_types.specs.Tries.{isInterface, triesAfter}
-use Rattle.plaid_types.specs.Cards.{noSet, withSession, withTries}
-use Rattle.plaid_types.specs.declared.KeySetSlot.{KeySetSlot}
+use Rattle.plaid_types.specs.Cards.{withSession, withTries}
 use Rattle.plaid_types.specs.declared.KeySetId.{KeySetId}
 use Rattle.plaid_types.specs.declared.Tries.{Tries}
 use Rattle.plaid_types.specs.declared.Card.{Card}
 use Rattle.plaid_types.specs.declared.Outcome.{Outcome}
-use Rattle.load.specs.Laws.{Stocked, setAt}
 use Rattle.initial.specs.Initial.{str1, blockOf}
 use Rattle.initial.specs.Laws.{length-str1}
-use Rattle.final_command.specs.Final.{keyOf, acceptsFinal}
+use Rattle.final_command.specs.Final.{acceptsFinal}
 use Rattle.card.specs.Command.{replyTo, refusesFinal, done, undone, verdictOn, outcome, answerBytes}
 use Rattle.reader_open.specs.Open.{textOf, idOf, divOf, rnd1Of, rnd1Copy, agrees, opensAs, winner}
 use Rattle.reader_open.specs.Laws.{opensEntry, Winner, won, lost, Encrypted, form-formed, form-text}
 use Rattle.session_initial.specs.Parts.{part-after, part-last}
-use Rattle.session_initial.specs.Held.{Holds}
 
 -- a call whose frame is right and that gets no number is not declined
 passes-by : (s : ℕ) (x a b d : Bool) → s ≡ 0x9000 →
@@ -135,29 +130,3 @@ module _ (l : ℕ) (ids : List KeySetId) (n : ℕ) (blocks : List ℕ) (j : ℕ)
   pub winner-is : Winner l ids n blocks → winner l ids n blocks ≡ j
   winner-is (won w) = order-by (winner l ids n blocks) (ltb (winner l ids n blocks) j) (ltb j (winner l ids n blocks)) refl refl (w .opens) (w .earlier)
   winner-is (lost f q) = absurd (true≢false (sym o ∙ f j h))
-
--- the FAKey found by KeySetID is that of the slot that holds it
-key-at : (ss : List KeySetSlot) (k : KeySetId) (other : List ℕ) (n : ℕ) → n < length ss → setMatched true k (getD ss n noSet .held) (getD ss n noSet .id) ≡ true →
-    ((m : ℕ) → m < n → setMatched true k (getD ss m noSet .held) (getD ss m noSet .id) ≡ false) → keyOf ss k other ≡ getD ss n noSet .«fa_key»
-unfolding keyOf
-key-at [] k other n h e f = absurd (not-suc-le-zero h)
-key-at (s ∷ ss) k other zero h e f = rw e
-key-at (s ∷ ss) k other (suc n) h e f = rw (f 0 (omega arith)) (key-at ss k other n (le-of-suc-le-suc h) e (λ m l. f (suc m) (omega arith)))
-
-module _ (c : Card) (g : Stocked c) (k : KeySetId) (n : ℕ) (w : Holds (c .sets) n k) where
-  number : {a b : KeySetId} → a ≡ b → a .0 ≡ b .0
-  number = ap (λ (x : KeySetId). x .0)
-
-  others-by : (m : ℕ) → m < n → (t : Bool) → setMatched true k (setAt c m .held) (setAt c m .id) ≡ t → t ≡ false
-  others-by m h false e = refl
-  others-by m h true e =
-      let s = split-and (setAt c m .held) (eqb (k .0) (setAt c m .id .0)) e in
-      absurd (g .set-once m n h (s .0) (w .kept) (sym (eqb-true (k .0) (setAt c m .id .0) (s .1)) ∙ sym (number (w .id))))
-
-  at-slot : setMatched true k (setAt c n .held) (setAt c n .id) ≡ true
-  at-slot = rw (w .kept, eq-eqb (k .0) (setAt c n .id .0) (sym (number (w .id))))
-
-  pub key-held : (other : List ℕ) → keyOf (c .sets) k other ≡ getD (c .sets) n noSet .«fa_key»
-  key-held other =
-      key-at (c .sets) k other n (omega (arith, w .below, g .sets-long)) at-slot
-      (λ m h. others-by m h (setMatched true k (setAt c m .held) (setAt c m .id)) refl)

@@ -29,7 +29,7 @@ use Rattle.plaid_types.specs.declared.Card.{Card}
 use Rattle.load.specs.Load.{some, repeated}
 use Rattle.load.specs.Laws.{map-take, GoodRecord, Stocked, stocked-length, stocked-state}
 use Rattle.initial.specs.Initial.{slotOf, str1, blockOf, openedWith, initialReply}
-use Rattle.final_command.specs.Final.{faKeyOf, rnd1Of as sessionRnd1, keyOf, firstMode, finalReply}
+use Rattle.final_command.specs.Final.{faKeyOf, rnd1Of as sessionRnd1, firstMode, finalReply}
 use Rattle.final_command.specs.Laws.{length-body, take-body, body-bytes}
 use Rattle.card.specs.Command.{replyTo, outcome, answerBytes, verdictOn}
 use Rattle.reader_list.specs.List.{numbers, given, listCommand, listNumber}
@@ -44,11 +44,11 @@ use Rattle.reader_accept.specs.Accept.{acceptedOf, workAfter, recordPart}
 use Rattle.reader_accept.specs.declared.Accepted.{Accepted}
 use Rattle.reader_accept.specs.RoundTrip.{cardReply, reply-accepted, reply-record, reply-short}
 use Rattle.session_initial.specs.Held.{held, firstHeld, first-held}
-use Rattle.session_initial.specs.Answered.{Answers, list-answered, list-slot}
+use Rattle.session_initial.specs.Answered.{Answers, list-answered}
 use Rattle.session_final.specs.SealFrame.{seal-status, seal-ins}
 use Rattle.session_final.specs.SealText.{SharedSession}
 use Rattle.session_final.specs.SealReply.{sealedSlot, sealedRecord, sealedBody, sealed-found, length-sealedRecord, seal-reply}
-use Rattle.session.specs.Parts.{goes-on, call-bytes, initial-card, block-text, text-div, text-rnd1, block-opens, winner-is, key-held}
+use Rattle.session.specs.Parts.{goes-on, call-bytes, initial-card, block-text, text-div, text-rnd1, block-opens, winner-is}
 
 -- the reply to an initial and to a final command
 reply-initial : (c : Card) (cmd fresh d : List ℕ) → insOf (frameOf cmd) ≡ initialIns → dataOf cmd ≡ d → replyTo c cmd fresh ≡ initialReply c d fresh
@@ -273,7 +273,7 @@ module _ (l : ℕ) (c : Card) (ids : List KeySetId) (n i₁ : ℕ) (fresh₁ : L
 
     -- the card after the initial command: its session is that of the set, with RND1
     s₁ : Session
-    s₁ = openedWith (slot .id) rnd1
+    s₁ = openedWith slot rnd1
 
     card-is : card₁ ≡ withSession c s₁
     unfolding s₁
@@ -281,14 +281,10 @@ module _ (l : ℕ) (c : Card) (ids : List KeySetId) (n i₁ : ℕ) (fresh₁ : L
         initial-card c i₁ (listCommand listed) fresh₁ room₁ (taken .status) (taken .ins) (k .first-call)
         ∙ ap (withSession c) (ap (λ (r : Reply). r .session) reply₁ ∙ answers .session)
 
+    -- T-07: and its FAKey
     key-is : faKeyOf (withSession c s₁) ≡ fa
     unfolding faKeyOf s₁
-    key-is =
-        let w = rw numbers-are at (list-slot c g entries (encoded (numbers entries)) encodes (k .some-held)) in
-        ap (λ (m : ℕ). keys.held m (keyOf (c .sets) (slot .id) (c .«shill_key»))) length-is
-        ∙ ap (λ (i : KeySetId). keys.held l (keyOf (c .sets) i (c .«shill_key»))) (answers .id)
-        ∙ ap (keys.held l) (key-held c g id (slotOf c (encoded listed)) w (c .«shill_key»))
-        ∙ k .same-key
+    key-is = ap (λ (m : ℕ). keys.held m (slot .«fa_key»)) length-is ∙ k .same-key
 
     -- the FAKey has L bytes: Seal does not give 22 for it
     pub key-length : length fa ≡ l

@@ -86,7 +86,7 @@ pub record Answers (l : ℕ) (c : Card) (fresh : List ℕ) (k : KeySetId) (slot 
   pub id : slot .id ≡ k
   pub bytes : r .bytes ≡ blockOf l fresh (str1 k (c .«div_data») (part fresh 0 l))
   pub handle : r .handle ≡ slot .handle
-  pub session : r .session ≡ openedWith (slot .id) (part fresh 0 l)
+  pub session : r .session ≡ openedWith slot (part fresh 0 l)
 
 answers-by :
     (c : Card) (d fresh : List ℕ) (k : KeySetId) (slot : KeySetSlot) (t : Bool)

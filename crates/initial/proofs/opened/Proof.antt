@@ -1,5 +1,6 @@
 -- `initial::opened` meets its contract: RND1 is the first l of the fresh bytes, and the first l of the 32 that hold it. Assumes nothing.
 use borrow.Author.Needs.{needs}
+use mathlib.Core.Bool.{true}
 use mathlib.Core.List.{List}
 use mathlib.Core.Path.{_≡_, sym, ap, ap₂, _∙_}
 use Prim.Native.Nat.{ℕ, _-_}
@@ -17,7 +18,7 @@ part-of-requires : tie.Need-part-of-requires
 part-of-requires c κs = search needs
 
 wide-requires : tie.Need-wide-requires
-wide-requires c κs = let s = c .before .before .before in omega (arith, s .pre .0, part-long _ _ _ (omega (arith, s .pre .0, s .pre .1)) (c .part-of .ensures))
+wide-requires c κs = let s = c .before .before .before .before .before in omega (arith, s .pre .0, part-long _ _ _ (omega (arith, s .pre .0, s .pre .1)) (c .part-of .ensures))
 
 array-share-prefix-rnd1 : tie.Need-array-share-prefix-rnd1
 array-share-prefix-rnd1 c = search needs
@@ -27,7 +28,7 @@ slice-aggregate-str1 c = sym (length-take-le _ _ (search needs))
 
 str1-requires : tie.Need-str1-requires
 str1-requires c κs =
-    let s = c .before .before .before .before .before .before in
+    let s = c .before .before .before .before .before .before .before .before in
     (omega (arith, s .pre .0, length-take (s .args .l) (c .before .before .wide .result)), search needs)
 
 same-length : tie.Need-same-length
@@ -36,15 +37,15 @@ same-length c = search needs
 returns : tie.Need-returns
 unfolding held part
 returns c =
-    let s = c .before .before .before .before .before .before .before .before .before in
+    let s = c .before .before .before .before .before .before .before .before .before .before .before in
     let a = s .args in
     let k : List ℕ = part (a .fresh .now) 0 (a .l) in
     let n = length-part (a .fresh .now) 0 (a .l) (omega (arith, s .pre .0, s .pre .1)) in
     let b = c .before .before .before .before .before in
     let w : b .wide .result ≡ wide k = b .wide .ensures ∙ ap wide (b .before .part-of .ensures) in
     let p : take (a .l) (b .wide .result) ≡ k = ap (take (a .l)) w ∙ held-wide (a .l) k n in (
-      rw w,
-      c .before .before .str1 .ensures ∙ ap₂ (λ (m : ℕ) (x : List ℕ). over (a .out .now) (256 - str1Length m) (str1 (a .id) (a .div) x)) (ap length p ∙ n) p,
+      ap (λ (r : List ℕ). record { opened = true; id = a .k .id; rnd1 = r; «fa_key» = a .k .«fa_key» }) w,
+      c .before .before .str1 .ensures ∙ ap₂ (λ (m : ℕ) (x : List ℕ). over (a .out .now) (256 - str1Length m) (str1 (a .k .id) (a .div) x)) (ap length p ∙ n) p,
     )
 
 pub opened-spec : {M : Type 1} → statement M

@@ -25,14 +25,14 @@ array-copy-out-k : tie.Need-array-copy-out-k
 array-copy-out-k c = search needs
 
 opened-of-length-requires : tie.Need-opened-of-length-requires
-opened-of-length-requires c κs = (length-fits _ (c .before .before .before .before .before .before .before .before .before .before .before .lawful .ensures), search needs, search needs)
+opened-of-length-requires c κs = (length-fits _ (c .before .before .before .before .before .before .before .before .before .before .lawful .ensures), search needs, search needs)
 
 same-length : tie.Need-same-length
 same-length c = search needs
 
 returns : tie.Need-returns
 returns c =
-    let s = c .before .before .before .before .before .before .before .before .before .before .before .before .before .before .before .before .before .before in
+    let s = c .before .before .before .before .before .before .before .before .before .before .before .before .before .before .before .before .before in
     let a = s .args in
     let ld : length (a .card .«div_data») ≡ 16 = search (needs, s .good .0) in
     let ls : length (a .card .sets) ≡ 8 = sym (length-map (a .card .sets) _) ∙ s .good .0 .1 .1 .0 .1 .0 .1 in
@@ -42,14 +42,14 @@ returns c =
     (a .fresh .now)
     (s .pre .1)
     ld
-    (c .before .before .before .before .before .before .before .before .before .before .before .before .before .before .lawful .ensures)
-    (c .before .before .before .before .before .before .before .before .before .before .before .before .compare-places .ensures)
+    (c .before .before .before .before .before .before .before .before .before .before .before .before .before .lawful .ensures)
+    (c .before .before .before .before .before .before .before .before .before .before .before .compare-places .ensures)
     (a .out .now)
     _
     ls
-    (omega (arith, c .before .before .before .before .before .before .before .if1 .taken))
+    (omega (arith, c .before .before .before .before .before .before .if1 .taken))
     (c .before .before .opened-of-length .ensures .0)
-    (c .before .before .before .before .before .before .before .before .before .before .head .ensures)
+    (c .before .before .before .before .before .before .before .before .before .head .ensures)
     (c .before .before .opened-of-length .ensures .1)
 
 text-at-requires : tie.Need-text-at-requires

@@ -1,7 +1,7 @@
 -- `blank` meets its contract: its parts are those of the definition. Assumes nothing.
 use Rattle.octets.specs.Lists.{part, over}
 use Rattle.plaid_types.specs.Keys.{wide, held}
-use Rattle.load.specs.Load.{blankCard, loadedCard}
+use Rattle.load.specs.Load.{blankCard, loadedCard, tableOf}
 use borrow.Author.Needs.{needs}
 use Rattle.load.proofs.blank.Statement.{statement}
 use Rattle.load.proofs.blank.Tie as tie
@@ -22,7 +22,7 @@ none-requires-2 : tie.Need-none-requires-2
 none-requires-2 c κs = search needs
 
 returns : tie.Need-returns
-unfolding blankCard loadedCard wide held over part
+unfolding blankCard loadedCard tableOf wide held over part
 returns c =
     let s = c .before in
     simp (c .none2 .ensures, s .none .ensures, s .before .empty-area .ensures, s .before .before .empty-modes .ensures, s .before .before .before .empty-sets .ensures)

@@ -39,7 +39,7 @@ set-slots-requires c κs =
     (sym (d .before .fault .ensures) ∙ d .if1 .left)
     in
     let e : length (a .sets) ≡ 8 = search needs in
-    (k .sets-most, λ i h. key-within (a .l) (getD (a .sets) i pastSet .«fa_key») (k .length-one) (set-right k i h (omega (arith, k .sets-most))))
+    (k .of-sets .sets-most, λ i h. key-within (a .l) (getD (a .sets) i pastSet .«fa_key») (k .length-one) (set-right (k .of-sets) i h (omega (arith, k .of-sets .sets-most))))
 
 copied-requires : tie.Need-copied-requires
 copied-requires c κs =

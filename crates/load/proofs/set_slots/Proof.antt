@@ -6,7 +6,7 @@ use lib.Seq.{paste, paste-zero}
 use mathlib.Core.List.{map}
 use lib.ListN.{length, take, length-map, List·getD-map}
 use Rattle.plaid_types.specs.Cards.{noSet}
-use Rattle.load.specs.Load.{pastSet, filled, setSlot}
+use Rattle.load.specs.Load.{pastSet, filled, setSlot, tableOf}
 use Rattle.load.specs.Laws.{map-take}
 use Rattle.load.proofs.Turns.{copy-turn, copy-filled}
 use borrow.Author.Needs.{needs}
@@ -58,6 +58,7 @@ loop-again c =
     )
 
 returns : tie.Need-returns Inv-loop μ-loop
+unfolding tableOf
 returns c =
     let a = c .before .before .before .args in
     let q = c .before .loop in

@@ -1,0 +1,2 @@
+pub mod KeyChange
+pub mod Laws
