@@ -1,9 +1,10 @@
 //! Reads lines in the form of the transcripts from standard input, runs each on the proved library, and writes it again with
 //! the result that the library gives. What stands behind `=>` is not looked at.
 //!
-//! A `load` line starts a new card; each `call` line gets the card as the call before left it. It names its `interface=` in front, any number;
-//! `tries=` are the counts that are read of the card afterwards, contact and contactless. The output buffer is filled before a call, and
-//! `kept=no` stands at the line's end where a byte behind the answer changed. `list`, `open`, `seal` and `accept` lines are the reader's.
+//! A `load` line starts a new card; each `sets` line, which loads key sets onto it, and each `call` line gets the card as the line before left
+//! it. A call names its `interface=` in front, any number; `session=` is KeySetID, RND1 and FAKey of the session that is open afterwards, and
+//! `tries=` are the counts that are read of the card then, contact and contactless. The output buffer is filled before a call, and `kept=no`
+//! stands at the line's end where a byte behind the answer changed. `list`, `open`, `seal` and `accept` lines are the reader's.
 //! `wiegand_record`, `wiegand_text`, `uuid_record` and `uuid_text` lines convert door numbers; a text is the hexadecimal of its bytes. A line
 //! that cannot be read gets an error with its number, and the run goes on; the exit status is then 1.
 
@@ -82,6 +83,10 @@ fn key_set(text: &str) -> Result<KeySet, String> {
     }
 }
 
+fn key_sets(text: &str) -> Result<Vec<KeySet>, String> {
+    parts(text).into_iter().map(key_set).collect()
+}
+
 fn mode(text: &str) -> Result<Mode, String> {
     match text.split(':').collect::<Vec<_>>()[..] {
         [id, start, len] => Ok(Mode { id: number(id)?, start: number(start)?, len: number(len)? }),
@@ -91,13 +96,23 @@ fn mode(text: &str) -> Result<Mode, String> {
 
 fn load(line: &str) -> Result<(Option<Card>, String), String> {
     let f = fields(line, &["l", "sets", "modes", "area", "div", "shill_key", "shill_handle"])?;
-    let sets = parts(f["sets"]).into_iter().map(key_set).collect::<Result<Vec<_>, _>>()?;
+    let sets = key_sets(f["sets"])?;
     let modes = parts(f["modes"]).into_iter().map(mode).collect::<Result<Vec<_>, _>>()?;
     let area = bytes(f["area"])?;
     let given = given(number(f["l"])?, sixteen(f["div"])?, value(f["shill_key"])?, number(f["shill_handle"])?);
     let r = run_load(&sets, &modes, &area, given);
     let result = format!("number={} reply_size={}", r.number, r.card.reply_size);
     Ok((if r.number == 0 { Some(r.card) } else { None }, result))
+}
+
+const NO_CARD: &str = "there is no loaded card before it";
+
+/// A load of key sets: whatever its number, the library hands back the next card.
+fn load_sets(line: &str, card: &mut Option<Card>) -> Result<String, String> {
+    let sets = key_sets(fields(line, &["sets"])?["sets"])?;
+    let r = run_load_sets(&sets, card.ok_or(NO_CARD)?);
+    *card = Some(r.card);
+    Ok(format!("number={}", r.number))
 }
 
 /// An output buffer of so many bytes, each with a value of its own, so that a change shows.
@@ -179,14 +194,14 @@ fn call(line: &str, card: &mut Option<Card>) -> Result<String, String> {
     let command = bytes(f["command"])?;
     let fresh = bytes(f["fresh"])?;
     let fill = filled(f["out"])?;
-    let held = card.ok_or("a call with no loaded card before it")?;
+    let held = card.ok_or(NO_CARD)?;
     let mut out = fill.clone();
     let r = run_command(held, interface, &command, &fresh, &mut out);
     let a = r.answer;
     let tries = run_read_tries(r.card);
     *card = Some(r.card);
     let end = a.length.min(out.len());
-    let after = r.card.open_session().map_or("-".to_string(), |(id, rnd1)| format!("{id}:{}", hex(rnd1)));
+    let after = r.card.open_session().map_or("-".to_string(), |(id, rnd1, key)| format!("{id}:{}:{}", hex(rnd1), hex(key)));
     let mut s = format!(
         "number={} status={} comparisons={} decipherments={} encipherments={} expansions={} hash_blocks={} length={} handle={} sum={} answer={} session={} tries={}:{}",
         a.number, a.status, a.comparisons, a.decipherments, a.encipherments, a.expansions, a.hash_blocks, a.length, a.handle, r.sum, hex(&out[..end]), after,
@@ -221,6 +236,7 @@ fn main() {
                 card = c;
                 s
             }),
+            "sets" => load_sets(question, &mut card),
             "call" => call(question, &mut card),
             "list" => list(question),
             "open" => open(question),
@@ -230,7 +246,7 @@ fn main() {
             "wiegand_text" => convert(question, "record", "text", run_wiegand_text),
             "uuid_record" => convert(question, "text", "record", run_uuid_record),
             "uuid_text" => convert(question, "record", "text", run_uuid_text),
-            other => Err(format!("'{other}' is none of load, call, list, open, seal, accept and the four conversions")),
+            other => Err(format!("'{other}' is none of load, sets, call, list, open, seal, accept and the four conversions")),
         };
         match result {
             Ok(s) => writeln!(out, "{question} => {s}").unwrap(),

@@ -63,6 +63,7 @@ pub struct Session {
     pub opened: bool,
     pub id: u16,
     pub rnd1: [u8; 32],
+    pub fa_key: [u8; 32],
 }
 
 /// The refused final commands on each interface.
@@ -89,10 +90,10 @@ pub struct Card {
 }
 
 impl Card {
-    /// The session's KeySetID and RND1, if one is open.
-    pub fn open_session(&self) -> Option<(u16, &[u8])> {
-        let length = self.key_length.min(32);
-        if self.session.opened { Some((self.session.id, &self.session.rnd1[..length])) } else { None }
+    /// The session's KeySetID, RND1 and FAKey, if one is open.
+    pub fn open_session(&self) -> Option<(u16, &[u8], &[u8])> {
+        let (length, Session { opened, id, rnd1, fa_key }) = (self.key_length.min(32), &self.session);
+        if *opened { Some((*id, &rnd1[..length], &fa_key[..length])) } else { None }
     }
 }
 
@@ -212,6 +213,7 @@ pub struct Converted {
 #[link(name = "plaid", kind = "static")]
 unsafe extern "C" {
     fn plaid_load(sets: *const KeySet, set_count: usize, given: Given, area: *const u8, area_len: usize) -> Loaded;
+    fn plaid_load_sets(sets: *const KeySet, set_count: usize, card: Card) -> Loaded;
     fn plaid_command(
         card: Card,
         interface: usize,
@@ -246,6 +248,11 @@ pub fn run_load(sets: &[KeySet], modes: &[Mode], area: &[u8], mut given: Given) 
         *to = *from;
     }
     unsafe { plaid_load(sets.as_ptr(), sets.len(), given, area.as_ptr(), area.len()) }
+}
+
+/// A load of any number of key sets onto a card.
+pub fn run_load_sets(sets: &[KeySet], card: Card) -> Loaded {
+    unsafe { plaid_load_sets(sets.as_ptr(), sets.len(), card) }
 }
 
 /// A command by this interface, whatever number it is.

@@ -1,5 +1,5 @@
 //! The card of document 01, with T-01: records of several lengths on one card; T-02: lists with every length of BER but FF; T-04: keys of
-//! 16, 24 or 32 bytes; and T-06: refused final commands counted for each interface.
+//! 16, 24 or 32 bytes; T-06: refused final commands counted for each interface; and T-07: key sets loaded onto a card.
 
 use crate::aes::{self, Block};
 use crate::fault::Fault;
@@ -37,9 +37,10 @@ pub struct Given {
 pub struct Session {
     pub id: u16,
     pub rnd1: Vec<u8>,
+    pub fa_key: Vec<u8>,
 }
 
-/// Beside what its load gave, and B, a card keeps only its session and its tries. Slots behind the given sets and modes are empty.
+/// Beside what its loads gave, and B, a card keeps only its session and its tries. Slots behind the given sets and modes are empty.
 #[derive(Clone, PartialEq)]
 pub struct Card {
     pub given: Given,
@@ -86,27 +87,50 @@ pub fn filled(reply_size: usize) -> usize {
     16 * (reply_size - 2)
 }
 
-/// Every FAKey of the list, then the shill key.
-fn keys_fit(given: &Given, fault: Fault) -> Result<(), Decline> {
-    for set in &given.sets {
-        keys::fits(&set.fa_key, given.key_length, "a FAKey not of L bytes", "a FAKey over 32 bytes")?;
-    }
+fn shill_key_fits(given: &Given, fault: Fault) -> Result<(), Decline> {
     if fault == Fault::ShillKeyNotLookedAt {
         return Ok(());
     }
     keys::fits(&given.shill_key, given.key_length, "shill key not of L bytes", "shill key over 32 bytes")
 }
 
+fn few_enough(sets: &[KeySet]) -> Result<(), Decline> {
+    decline_if(sets.is_empty(), 1, "no key set")?;
+    decline_if(sets.len() > 8, 1, "over 8 key sets")
+}
+
+/// Every FAKey of the list, then the other key that may be given with it.
+fn keys_fit(sets: &[KeySet], key_length: usize, other: Result<(), Decline>) -> Result<(), Decline> {
+    for set in sets {
+        keys::fits(&set.fa_key, key_length, "a FAKey not of L bytes", "a FAKey over 32 bytes")?;
+    }
+    other
+}
+
+/// Every fault of key sets for a card with this L and shill handle, one for each number.
+pub fn set_faults(sets: &[KeySet], key_length: usize, shill_handle: u8, other: Result<(), Decline>) -> Vec<Decline> {
+    let checks = [
+        few_enough(sets),
+        keys_fit(sets, key_length, other),
+        decline_if(has_repeated(sets.iter().map(|s| s.id)), 2, "repeated KeySetID"),
+        decline_if(sets.iter().any(|s| s.handle == shill_handle), 3, "a set with the shill handle"),
+    ];
+    checks.into_iter().filter_map(Result::err).collect()
+}
+
+/// `Err` with the fault whose number comes first in this order.
+fn first_fault(faults: &[Decline], order: &[u8]) -> Result<(), Decline> {
+    let first = order.iter().find_map(|number| faults.iter().find(|fault| fault.number == *number));
+    first.map_or(Ok(()), |fault| Err(*fault))
+}
+
+/// The order of the key set checks.
+const SET_CHECKS: &[u8] = &[1, 22, 2, 3];
+
 pub fn load(given: &Given, fault: Fault) -> Result<Card, Decline> {
     keys::known(given.key_length)?;
-    if fault == Fault::KeysBeforeCount {
-        keys_fit(given, fault)?;
-    }
-    decline_if(given.sets.is_empty(), 1, "no key set")?;
-    decline_if(given.sets.len() > 8, 1, "over 8 key sets")?;
-    keys_fit(given, fault)?;
-    decline_if(has_repeated(given.sets.iter().map(|s| s.id)), 2, "repeated KeySetID")?;
-    decline_if(given.sets.iter().any(|s| s.handle == given.shill_handle), 3, "a set with the shill handle")?;
+    let faults = set_faults(&given.sets, given.key_length, given.shill_handle, shill_key_fits(given, fault));
+    first_fault(&faults, if fault == Fault::KeysBeforeCount { &[22, 1, 2, 3] } else { SET_CHECKS })?;
     decline_if(given.modes.is_empty(), 4, "no mode")?;
     decline_if(given.modes.len() > 16, 4, "over 16 modes")?;
     decline_if(has_repeated(given.modes.iter().map(|m| m.id)), 5, "repeated OpModeID")?;
@@ -116,6 +140,52 @@ pub fn load(given: &Given, fault: Fault) -> Result<Card, Decline> {
     let inside = |m: &Mode| m.start.checked_add(m.len).is_some_and(|end| end <= given.area.len());
     decline_if(!given.modes.iter().all(inside), 6, "a record outside the area")?;
     Ok(Card { given: given.clone(), reply_size: largest_reply(&given.modes, fault), session: None, tries: [0, 0] })
+}
+
+/// A load of key sets onto a card: its table changes, and nothing else. A refused one keeps the old table.
+pub fn load_sets(card: &mut Card, sets: &[KeySet], fault: Fault) -> Result<(), Decline> {
+    let key_length = if fault == Fault::NewKeysOf16 { 16 } else { card.given.key_length };
+    let shill_handle = if fault == Fault::NewHandlesNot0 { 0 } else { card.given.shill_handle };
+    let checked = first_fault(&set_faults(sets, key_length, shill_handle, Ok(())), later_checks(fault));
+    let old = card.given.sets.clone();
+    if checked.is_ok() {
+        card.given.sets = sets.to_vec();
+    }
+    load_mistake(card, &old, sets, checked.is_ok(), fault);
+    checked
+}
+
+/// The checks of such a load: a first one's.
+fn later_checks(fault: Fault) -> &'static [u8] {
+    match fault {
+        Fault::NewKeysBeforeCount => &[22, 1, 2, 3],
+        Fault::RepeatedBeforeNewKeys => &[1, 2, 22, 3],
+        Fault::HandleBeforeNewKeys => &[1, 3, 22, 2],
+        Fault::HandleBeforeRepeated => &[1, 22, 3, 2],
+        Fault::NewCountNotLookedAt => &[22, 2, 3],
+        Fault::NewKeysNotLookedAt => &[1, 2, 3],
+        Fault::RepeatedNotLookedAt => &[1, 22, 3],
+        Fault::NewHandlesNotLookedAt => &[1, 22, 2],
+        _ => SET_CHECKS,
+    }
+}
+
+/// What a load of key sets may wrongly do besides.
+fn load_mistake(card: &mut Card, old: &[KeySet], new: &[KeySet], taken: bool, fault: Fault) {
+    let held = |id| new.iter().find(|set| set.id == id);
+    match (fault, taken, &mut card.session) {
+        (Fault::LoadEndsSession, true, session) | (Fault::RefusedLoadEndsSession, false, session) => *session = None,
+        (Fault::DroppedSetEndsSession, true, session) => *session = session.take().filter(|s| held(s.id).is_some()),
+        (Fault::SessionGetsNewKey, true, Some(s)) => s.fa_key = held(s.id).map_or(s.fa_key.clone(), |set| set.fa_key.clone()),
+        (Fault::OldSetsStay, true, _) => card.given.sets.extend(old.iter().skip(new.len()).cloned()),
+        (Fault::OtherSetsStay, true, _) => card.given.sets.extend(old.iter().filter(|set| held(set.id).is_none()).cloned()),
+        (Fault::NewSetsBehindOld, true, _) => card.given.sets = [old, new].concat(),
+        (Fault::RefusedLoadLeavesFirst, false, _) => card.given.sets.iter_mut().zip(new).take(1).for_each(|(to, from)| *to = from.clone()),
+        (Fault::RefusedLoadEmpties, false, _) => card.given.sets.clear(),
+        (Fault::LoadClearsTries, true, _) => card.tries = [0, 0],
+        (Fault::RefusedLoadCounted, false, _) => count_try(card, 0, fault),
+        _ => {}
+    }
 }
 
 /// A command call's answer. `why` says for the statistics which rule decided; it is no part of the answer.
@@ -356,7 +426,8 @@ fn initial(card: &mut Card, interface: usize, data: &[u8], fresh: &[u8], out: &m
         let rnd1 = fresh[..length].to_vec();
         last = [&set.id.to_be_bytes()[..], &card.given.div_data, &rnd1, &rnd1].concat();
         (handle, why) = (set.handle, accepted_list(data, ids.len()));
-        Session { id: set.id, rnd1 }
+        let of = if fault == Fault::FirstSlotsKey { &card.given.sets[0] } else { set };
+        Session { id: set.id, rnd1, fa_key: of.fa_key.clone() }
     });
     if fault == Fault::InitialCounted && winner.is_none() {
         count_try(card, interface, fault);
@@ -367,15 +438,22 @@ fn initial(card: &mut Card, interface: usize, data: &[u8], fresh: &[u8], out: &m
 }
 
 /// The FAKey and RND1 of a final command: the session's, or what stands for them.
-pub fn final_keys(card: &Card) -> (Vec<u8>, Vec<u8>) {
-    let set = |session: &Session| card.given.sets.iter().find(|s| s.id == session.id).unwrap().fa_key.clone();
-    let none = || (card.given.shill_key.clone(), vec![0; card.given.key_length]);
-    card.session.as_ref().map_or_else(none, |s| (set(s), s.rnd1.clone()))
+pub fn final_keys(card: &Card, fault: Fault) -> (Vec<u8>, Vec<u8>) {
+    let Some(Session { id, rnd1, fa_key }) = &card.session else {
+        return (card.given.shill_key.clone(), vec![0; card.given.key_length]);
+    };
+    let found = card.given.sets.iter().find(|set| set.id == *id).map(|set| &set.fa_key);
+    let fa_key = match (fault, found) {
+        (Fault::KeyLookedUp, Some(key)) => key,
+        (Fault::DroppedSetGetsShillKey, None) => &card.given.shill_key,
+        _ => fa_key,
+    };
+    (fa_key.clone(), rnd1.clone())
 }
 
 fn final_command(card: &mut Card, interface: usize, data: &[u8], fresh: &[u8], out: &mut [u8], fault: Fault) -> Answer {
     let mut work = Work::default();
-    let (fa_key, rnd1) = final_keys(card);
+    let (fa_key, rnd1) = final_keys(card, fault);
     let (length, keys) = (card.given.key_length, work.expand(&fa_key));
     let diversified = keys::diversified(length, &card.given.div_data, fault, |block| work.encipher(&fa_key, &keys, block));
     let keys = work.expand(&diversified);

@@ -106,14 +106,22 @@ fn broken_promise(case: &Case, last: &Seen, outcomes: &mut Outcomes) -> bool {
         Some(Line::Door { of, .. }) => format!("{} and back", of.name()),
         _ => for_length("session", lengths.first().copied()),
     };
+    let ended = if loaded_between(&case.lines) { "ended as promised, key sets loaded in between" } else { "ended as promised" };
     match &case.promised {
-        Some(record) if returned == Some(record) => outcomes.count(kind, "ended as promised"),
+        Some(record) if returned == Some(record) => outcomes.count(kind, ended),
         Some(_) => return true,
         None if case.session && lengths.iter().any(|l| *l != lengths[0]) => outcomes.count("session".to_string(), "two key lengths"),
         None if case.session => outcomes.count("session".to_string(), "without promise"),
         None => {}
     }
     false
+}
+
+/// Whether key sets were loaded between the first command and the last.
+fn loaded_between(lines: &[Line]) -> bool {
+    let mut lines = lines.iter().skip_while(|line| !matches!(line, Line::Call { .. }));
+    let loaded = lines.position(|line| matches!(line, Line::Sets(_)));
+    loaded.is_some() && lines.any(|line| matches!(line, Line::Call { .. }))
 }
 
 pub fn library(calls: usize, seed: u64) -> Tally {
@@ -144,7 +152,7 @@ fn shown(name: &str, run: &Run) -> bool {
     again.failed == 0 && (1..=FEW).contains(&again.passed) && transcript.contains("\n# with the fault: ")
 }
 
-/// Each of document 01's traps, T-01's, T-02's, T-04's, T-05's and T-06's, and a change of each thing compared, has to be found.
+/// Each of document 01's traps, T-01's, T-02's, and T-04's to T-07's, and a change of each thing compared, has to be found.
 pub fn self_test(calls: usize, seed: u64) -> Tally {
     let mut traps = Tally::default();
     for (fault, trap) in TRAPS {

@@ -1,4 +1,4 @@
-//! Document 01's traps for the implementer, and mistakes that T-01, T-02, T-04, T-05 and T-06 invite, as switches. Only a self-test turns one on, to
+//! Document 01's traps for the implementer, and mistakes that T-01, T-02 and T-04 to T-07 invite, as switches. Only a self-test turns one on, to
 //! see that the comparison finds it.
 
 #[derive(Clone, Copy, PartialEq)]
@@ -59,10 +59,34 @@ pub enum Fault {
     HeldAt65534,
     HeldAt255,
     HeldTogether,
+    KeyLookedUp,
+    DroppedSetGetsShillKey,
+    FirstSlotsKey,
+    SessionGetsNewKey,
+    LoadEndsSession,
+    RefusedLoadEndsSession,
+    DroppedSetEndsSession,
+    OldSetsStay,
+    OtherSetsStay,
+    NewSetsBehindOld,
+    RefusedLoadLeavesFirst,
+    RefusedLoadEmpties,
+    LoadClearsTries,
+    RefusedLoadCounted,
+    NewKeysBeforeCount,
+    RepeatedBeforeNewKeys,
+    HandleBeforeNewKeys,
+    HandleBeforeRepeated,
+    NewCountNotLookedAt,
+    NewKeysNotLookedAt,
+    RepeatedNotLookedAt,
+    NewHandlesNotLookedAt,
+    NewKeysOf16,
+    NewHandlesNot0,
 }
 
-/// Each fault that random calls on new cards find, in words: document 01's traps, then T-01's, T-02's, T-04's, T-05's and T-06's.
-pub const TRAPS: [(Fault, &str); 51] = [
+/// Each fault that random calls on new cards find, in words: document 01's traps, then T-01's, T-02's, and T-04's to T-07's.
+pub const TRAPS: [(Fault, &str); 75] = [
     (Fault::FullTextGetsNo80, "leaving out 0x80 when a text fills its blocks"),
     (Fault::WalkEndsAtMatch, "ending the list walk at the first match"),
     (Fault::SlotOrderWins, "taking card slot order over list order"),
@@ -114,6 +138,30 @@ pub const TRAPS: [(Fault, &str); 51] = [
     (Fault::InterfaceModulo2To32, "taking an interface modulo 2^32"),
     (Fault::OtherIsContactless, "taking every interface but 0 for contactless"),
     (Fault::UnknownInterfaceEndsSession, "an unknown interface that ends the session"),
+    (Fault::KeyLookedUp, "finding a session's key by its KeySetID"),
+    (Fault::DroppedSetGetsShillKey, "the shill key for a session whose set is gone"),
+    (Fault::FirstSlotsKey, "a session with the first slot's key"),
+    (Fault::SessionGetsNewKey, "a load that gives the session its set's new key"),
+    (Fault::LoadEndsSession, "a load of key sets that ends the session"),
+    (Fault::RefusedLoadEndsSession, "a refused load of key sets that ends the session"),
+    (Fault::DroppedSetEndsSession, "a load that ends a session whose set it drops"),
+    (Fault::OldSetsStay, "old sets behind a shorter table"),
+    (Fault::OtherSetsStay, "a load that keeps the sets of other KeySetIDs"),
+    (Fault::NewSetsBehindOld, "new sets behind the old ones"),
+    (Fault::RefusedLoadLeavesFirst, "a refused load that leaves its first set in the table"),
+    (Fault::RefusedLoadEmpties, "a refused load that empties the table"),
+    (Fault::LoadClearsTries, "a load of key sets that clears the counts"),
+    (Fault::RefusedLoadCounted, "counting a refused load of key sets"),
+    (Fault::NewKeysBeforeCount, "giving 22 before 1 at a load of key sets"),
+    (Fault::RepeatedBeforeNewKeys, "giving 2 before 22 there"),
+    (Fault::HandleBeforeNewKeys, "giving 3 before 22 there"),
+    (Fault::HandleBeforeRepeated, "giving 3 before 2 there"),
+    (Fault::NewCountNotLookedAt, "taking no key set, or the first eight of more"),
+    (Fault::NewKeysNotLookedAt, "not looking at the new keys for 22"),
+    (Fault::RepeatedNotLookedAt, "taking a KeySetID twice at a load of key sets"),
+    (Fault::NewHandlesNotLookedAt, "taking the shill handle there"),
+    (Fault::NewKeysOf16, "taking new keys of 16 bytes for every L"),
+    (Fault::NewHandlesNot0, "taking 0 for the shill handle at a load of key sets"),
 ];
 
 /// Those that only a card with a high count shows.

@@ -12,7 +12,7 @@ use crate::keys::LENGTHS;
 use crate::line::Line;
 use crate::random::Random;
 
-/// Lines that belong together: a load with its calls, one call of the reader, a whole session, or door numbers.
+/// Lines that belong together: a load with what follows it, one call of the reader, a whole session, or door numbers.
 pub struct Case {
     pub lines: Vec<Line>,
     /// What the last line has to hand back: by the session promise the record; there and back, the door number that was given.
@@ -22,41 +22,48 @@ pub struct Case {
 }
 
 pub fn case(random: &mut Random) -> Case {
-    let lines = match random.below(130) {
+    let lines = match random.below(140) {
         0..16 => vec![Line::Load(load::any(random))],
-        16..36 => card_list(random),
-        36..46 => vec![reader::list(random)],
-        46..58 => vec![reader::open(random)],
-        58..70 => vec![reader::seal(random)],
-        70..85 => vec![reader::accept(random)],
-        85..100 => return session::any(random),
+        16..46 => card_list(random),
+        46..56 => vec![reader::list(random)],
+        56..68 => vec![reader::open(random)],
+        68..80 => vec![reader::seal(random)],
+        80..95 => vec![reader::accept(random)],
+        95..110 => return session::any(random),
         _ => return door::case(random),
     };
     Case { lines, promised: None, session: false }
 }
 
-/// Runs the command on the generator's own card, so that the next one can be made for the card as it is then.
-fn follow(card: &mut Card, call: &Line) -> Vec<u8> {
-    let Line::Call { interface, command, fresh, out } = call else { return Vec::new() };
+/// Runs the line on the generator's own card, so that the next one can be made for the card as it is then. Gives a command's answer.
+fn follow(card: &mut Card, line: &Line) -> Vec<u8> {
+    if let Line::Sets(sets) = line {
+        let _ = card::load_sets(card, sets, Fault::None);
+    }
+    let Line::Call { interface, command, fresh, out } = line else { return Vec::new() };
     let mut buffer = vec![0; *out];
     let answer = card::command(card, *interface, command, fresh, &mut buffer, Fault::None);
     buffer.truncate(answer.length);
     buffer
 }
 
-/// A load and up to sixteen commands.
+/// A load, and up to sixteen commands and loads of key sets.
 pub fn card_list(random: &mut Random) -> Vec<Line> {
     let given = load::good(random);
     let mut lines = vec![Line::Load(given.clone())];
     if let Ok(mut card) = card::load(&given, Fault::None) {
         for _ in 0..random.between(1, 16) {
-            let call = command::call(random, &card, &lines);
-            follow(&mut card, &call);
-            lines.push(call);
+            let loads = if card.session.is_some() { 40 } else { 15 };
+            let line = if random.percent(loads) { load::onto(random, &card) } else { command::call(random, &card, &lines) };
+            follow(&mut card, &line);
+            lines.push(line);
         }
     }
     lines
 }
+
+/// So many key sets at the most come in a list for a card.
+pub const MOST_SETS: usize = 12;
 
 /// Interfaces that no card has. Those from 256 on are 0, 1 or another in fewer bits.
 pub const UNKNOWN_INTERFACES: [usize; 14] = [2, 3, 4, 127, 128, 254, 255, 256, 257, 1 << 16, 1 << 32, (1 << 32) + 1, 1 << 63, usize::MAX];

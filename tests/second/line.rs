@@ -9,7 +9,9 @@ use crate::reader::{Accepting, Sealing};
 pub enum Line {
     /// Starts a new card.
     Load(Given),
-    /// A command, by an interface, to the card as the call before left it.
+    /// Key sets onto the card as the line before left it.
+    Sets(Vec<KeySet>),
+    /// A command, by an interface, to the card as the line before left it.
     Call { interface: usize, command: Vec<u8>, fresh: Vec<u8>, out: usize },
     List { ids: Vec<u16>, out: usize },
     Open { key_length: usize, ids: Vec<u16>, blocks: Vec<u8> },
@@ -43,6 +45,7 @@ impl Line {
                 let rest = [Size(key_length), Block(div_data), Bytes(shill_key), Handle(shill_handle)];
                 lists.into_iter().chain(rest).collect()
             }
+            Line::Sets(sets) => vec![Sets(sets)],
             Line::Call { interface, command, fresh, out } => vec![Size(interface), Command(command), Fresh(fresh), Size(out)],
             Line::List { ids, out } => vec![Ids(ids), Size(out)],
             Line::Open { key_length, ids, blocks } => vec![Ids(ids), Bytes(blocks), Size(key_length)],
@@ -56,19 +59,24 @@ impl Line {
         }
     }
 
+    /// What a load of a card is given.
+    pub fn given(&mut self) -> Option<&mut Given> {
+        if let Line::Load(given) = self { Some(given) } else { None }
+    }
+
     /// L, where a line has it.
     pub fn key_length(&self) -> Option<usize> {
         match self {
             Line::Load(Given { key_length, .. }) | Line::Open { key_length, .. } => Some(*key_length),
             Line::Seal { of: Sealing { key_length, .. }, .. } | Line::Accept { of: Accepting { key_length, .. }, .. } => Some(*key_length),
-            Line::Call { .. } | Line::List { .. } | Line::Door { .. } => None,
+            Line::Sets(_) | Line::Call { .. } | Line::List { .. } | Line::Door { .. } => None,
         }
     }
 
     /// The size of the buffer lent for writing.
     pub fn lent(&self) -> usize {
         match self {
-            Line::Load(_) | Line::Open { .. } => 0,
+            Line::Load(_) | Line::Sets(_) | Line::Open { .. } => 0,
             Line::Call { out, .. } | Line::List { out, .. } | Line::Seal { out, .. } | Line::Door { out, .. } => *out,
             Line::Accept { work, .. } => work.len(),
         }

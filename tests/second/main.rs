@@ -1,4 +1,4 @@
-//! A second implementation of document 01 with T-01 to T-06, and the proved library compared with it. Runs from the top of the repository.
+//! A second implementation of document 01 with T-01 to T-07, and the proved library compared with it. Runs from the top of the repository.
 //! Arguments: the number of random calls and the seed, both with a default.
 
 mod aes;
@@ -10,6 +10,7 @@ mod fault;
 mod generate;
 mod keys;
 mod line;
+mod loads;
 mod meddle;
 mod nist;
 mod outcomes;

@@ -4,11 +4,12 @@ use std::collections::{BTreeMap, BTreeSet};
 
 use crate::door::{Conversion, bad_place};
 use crate::fault::Fault;
-use crate::generate::UNKNOWN_INTERFACES;
+use crate::generate::{MOST_SETS, UNKNOWN_INTERFACES};
 use crate::keys::LENGTHS;
 use crate::line::Line;
+use crate::loads::Loads;
 use crate::plaid::Tries;
-use crate::side::Reply;
+use crate::side::{Image, Reply};
 
 /// The outcomes that have to come up: for each kind of call and number or status, the rules that decide.
 const REQUIRED: [(&str, &[&str]); 35] = [
@@ -50,15 +51,34 @@ const REQUIRED: [(&str, &[&str]); 35] = [
 ];
 
 /// Those that have to come up for each L.
-const REQUIRED_FOR_EACH: [(&str, &[&str]); 43] = [
+const REQUIRED_FOR_EACH: [(&str, &[&str]); 62] = [
     ("load 0", LOADED),
-    ("load 1", &["no key set", "over 8 key sets"]),
-    ("load 22", &["a FAKey not of L bytes", "a FAKey over 32 bytes", "shill key not of L bytes", "shill key over 32 bytes"]),
-    ("load 2", &["repeated KeySetID"]),
-    ("load 3", &["a set with the shill handle"]),
+    ("load 1", COUNT),
+    ("load 22", FA_KEY),
+    ("load 22", &["shill key not of L bytes", "shill key over 32 bytes"]),
+    ("load 2", REPEATED),
+    ("load 3", HANDLE),
     ("load 4", &["no mode", "over 16 modes"]),
     ("load 5", &["repeated OpModeID"]),
     ("load 6", &["area over 1,024", "a record empty", "a record over 64", "a record outside the area"]),
+    ("sets 0, no session", &["no session's set"]),
+    ("sets 0, session open", SET_NOW),
+    ("sets 0", &["a shorter table", "a table as long", "a longer table"]),
+    ("sets 1, no session", COUNT),
+    ("sets 1, session open", COUNT),
+    ("sets 22, no session", FA_KEY),
+    ("sets 22, session open", FA_KEY),
+    ("sets 2, no session", REPEATED),
+    ("sets 2, session open", REPEATED),
+    ("sets 3, no session", HANDLE),
+    ("sets 3, session open", HANDLE),
+    ("sets 1", &["alone", "and 22", "and 2", "and 3"]),
+    ("sets 22", &["alone", "and 2", "and 3"]),
+    ("sets 2", &["alone", "and 3"]),
+    ("initial accepted after loads", &["a new set", "an old set with another key", "an old set", "a set that is gone"]),
+    ("initial refused after loads", &["a set that is gone"]),
+    ("final accepted after loads", AFTER_LOADS),
+    ("final refused after loads", AFTER_LOADS),
     ("call 26, no session", UNKNOWN_INTERFACE),
     ("call 26, session open", UNKNOWN_INTERFACE),
     ("call 8", &["fresh bytes not 253"]),
@@ -93,10 +113,20 @@ const REQUIRED_FOR_EACH: [(&str, &[&str]); 43] = [
     ("accept 19", &["work buffer shorter than the response"]),
     ("accept 20", &["padding", "body empty alone", "body over 64 alone", "DivData alone"]),
     ("accept 20", &["record length 0 alone", "body shorter than the record alone", "several"]),
-    ("session", &["ended as promised"]),
+    ("session", &["ended as promised", "ended as promised, key sets loaded in between"]),
 ];
 
 const UNKNOWN_LENGTH: &[&str] = &["L none of the three"];
+
+/// Of key sets, in a load of a card or onto one.
+const COUNT: &[&str] = &["no key set", "over 8 key sets"];
+const FA_KEY: &[&str] = &["a FAKey not of L bytes", "a FAKey over 32 bytes"];
+const REPEATED: &[&str] = &["repeated KeySetID"];
+const HANDLE: &[&str] = &["a set with the shill handle"];
+
+/// Of key sets loaded in a session, and of a final command behind such loads: the session's set afterwards.
+const SET_NOW: &[&str] = &["its set at its slot", "its set at another slot", "its set with another key", "its set gone"];
+const AFTER_LOADS: &[&str] = &["loads refused", "its set held", "its set with another key", "its set gone"];
 
 /// Of a call by neither interface: alone, and together with each other decline.
 const UNKNOWN_INTERFACE: &[&str] = &[
@@ -172,6 +202,9 @@ pub struct Outcomes {
     places: BTreeSet<(&'static str, usize)>,
     /// The interfaces that were refused.
     interfaces: BTreeSet<usize>,
+    loads: Loads,
+    /// How many key sets were loaded onto a card, or meant to be.
+    set_counts: BTreeSet<usize>,
 }
 
 impl Outcomes {
@@ -182,6 +215,12 @@ impl Outcomes {
     pub fn count_reply(&mut self, line: &Line, reply: &Reply, why: &'static str) {
         let length = line.key_length().or(reply.card().map(|card| card.0.key_length));
         self.count(for_length(&kind(reply), length), why);
+        for (kind, what) in self.loads.outcomes(line, reply, why) {
+            self.count(for_length(&kind, length), what);
+        }
+        if let Line::Sets(sets) = line {
+            self.set_counts.insert(sets.len());
+        }
         if let (Line::Call { interface, command, .. }, Reply::Call { tries: Tries { contact, contactless }, .. }) = (line, reply) {
             let tries = [*contact, *contactless];
             let declined = if command.get(1) == Some(&0x86) { "final declined" } else { "other declined" };
@@ -219,7 +258,9 @@ impl Outcomes {
         let places = PLACES.iter().flat_map(|(of, count)| (0..*count).map(|place| (of.name(), place)));
         let places = places.filter(|at| !self.places.contains(at)).map(|(name, place)| format!("{name}: refused at place {place}"));
         let unknown = UNKNOWN_INTERFACES.iter().filter(|interface| !self.interfaces.contains(interface));
-        missing.chain(lengths).chain(places).chain(unknown.map(|interface| format!("call 26: interface {interface}"))).collect()
+        let unknown = unknown.map(|interface| format!("call 26: interface {interface}"));
+        let counts = (0..=MOST_SETS).filter(|count| !self.set_counts.contains(count)).map(|count| format!("sets: a list of {count}"));
+        missing.chain(lengths).chain(places).chain(unknown).chain(counts).collect()
     }
 }
 
@@ -250,13 +291,18 @@ pub fn for_length(kind: &str, key_length: Option<usize>) -> String {
     known.map_or(kind.to_string(), |l| format!("{kind}, L {l}"))
 }
 
+fn session(card: &Image) -> &'static str {
+    if card.0.session.opened { "session open" } else { "no session" }
+}
+
 /// The kind of call with its number or status, and the answer's length where there is one.
 fn kind(reply: &Reply) -> String {
     match reply {
         Reply::Load { number, .. } => format!("load {number}"),
+        Reply::Sets { number, card, .. } => format!("sets {number}, {}", session(card)),
         Reply::Call { number: 0, status, length: 0, .. } => format!("call {status:04x}"),
         Reply::Call { number: 0, status, length, .. } => format!("call {status:04x}, {length} bytes"),
-        Reply::Call { number: 26, card, .. } => format!("call 26, {}", if card.0.session.opened { "session open" } else { "no session" }),
+        Reply::Call { number: 26, card, .. } => format!("call 26, {}", session(card)),
         Reply::Call { number, .. } => format!("call {number}"),
         Reply::List { number, .. } => format!("list {number}"),
         Reply::Open { number, .. } => format!("open {number}"),

@@ -7,7 +7,7 @@ use crate::tally::Tally;
 use crate::transcript::{parse, question, result};
 
 const FILES: [&str; 4] = [
-    "tests/transcripts/t06-card.txt",
+    "tests/transcripts/t07-card.txt",
     "tests/transcripts/t04-reader.txt",
     "tests/transcripts/t05-door.txt",
     "tests/transcripts/edges.txt",

@@ -16,6 +16,7 @@ pub fn shrink(lines: Vec<Line>, differs: &dyn Fn(&[Line]) -> bool) -> Vec<Line> 
     loop {
         let before = shrinker.lines.clone();
         shrinker.drop_lines();
+        shrinker.join_loads();
         for at in 0..shrinker.lines.len() {
             shrinker.simplify(at);
         }
@@ -46,6 +47,19 @@ impl Shrinker<'_> {
             let mut lines = self.lines.clone();
             lines.remove(at);
             self.take(lines);
+        }
+    }
+
+    /// Lets a card be loaded with key sets that come later.
+    fn join_loads(&mut self) {
+        for at in (0..self.lines.len()).rev() {
+            let mut lines = self.lines.clone();
+            let later = lines.remove(at);
+            let first = lines[..at].iter_mut().rev().find_map(Line::given);
+            if let (Line::Sets(sets), Some(given)) = (later, first) {
+                given.sets = sets;
+                self.take(lines);
+            }
         }
     }
 

@@ -3,7 +3,7 @@
 use std::ops::Range;
 
 use crate::aes::Block;
-use crate::card::{self, Card, Decline, Given, Mode, Session};
+use crate::card::{self, Card, Decline, Given, KeySet, Mode, Session};
 use crate::door::{self, Conversion};
 use crate::fault::Fault;
 use crate::line::Line;
@@ -19,20 +19,21 @@ pub struct Image(pub plaid::Card);
 #[derive(Clone, PartialEq)]
 pub enum Reply {
     Load { number: u8, card: Image, lists_kept: bool, tries: Tries },
+    Sets { number: u8, card: Image, list_kept: bool, tries: Tries },
     Call { number: u8, status: u16, work: Work, length: usize, handle: u8, card: Image, tries: Tries },
     List { number: u8, length: usize },
     Open { number: u8, place: usize, id: u16, div_data: Block, rnd1: Value },
     Seal { number: u8, length: usize, keys_hash: Value },
     Accept { number: u8, length: usize, part: Range<usize> },
     Door { of: Conversion, number: u8, length: usize },
-    /// A command without a loaded card before it.
+    /// A command, or key sets, without a loaded card before it.
     NoCard,
 }
 
 impl Reply {
     pub fn card(&self) -> Option<&Image> {
         match self {
-            Reply::Load { card, .. } | Reply::Call { card, .. } => Some(card),
+            Reply::Load { card, .. } | Reply::Sets { card, .. } | Reply::Call { card, .. } => Some(card),
             _ => None,
         }
     }
@@ -51,7 +52,7 @@ impl PartialEq for Image {
         let set = |s: &plaid::KeySetSlot| (s.held, s.id, s.handle, s.fa_key);
         let mode = |m: &plaid::ModeSlot| (m.held, m.id, m.start, m.len);
         let rest = |c: &plaid::Card| (c.div_data, c.shill_key, c.shill_handle, c.key_length, c.reply_size);
-        let session = |s: &plaid::Session| (s.opened, s.id, s.rnd1);
+        let session = |s: &plaid::Session| (s.opened, s.id, s.rnd1, s.fa_key);
         a.sets.each_ref().map(set) == b.sets.each_ref().map(set)
             && a.modes.each_ref().map(mode) == b.modes.each_ref().map(mode)
             && a.area == b.area
@@ -61,7 +62,7 @@ impl PartialEq for Image {
     }
 }
 
-const NO_SESSION: plaid::Session = plaid::Session { opened: false, id: 0, rnd1: [0; 32] };
+const NO_SESSION: plaid::Session = plaid::Session { opened: false, id: 0, rnd1: [0; 32], fa_key: [0; 32] };
 
 /// No card: what a refused load leaves.
 const BLANK: plaid::Card = plaid::Card {
@@ -95,7 +96,7 @@ fn image(card: &Card) -> Image {
     to.area[..area.len()].copy_from_slice(area);
     (to.div_data, to.shill_key, to.shill_handle) = (*div_data, in_card(shill_key), *shill_handle);
     (to.key_length, to.reply_size) = (*key_length, card.reply_size);
-    let open = |s: &Session| plaid::Session { opened: true, id: s.id, rnd1: in_card(&s.rnd1) };
+    let open = |s: &Session| plaid::Session { opened: true, id: s.id, rnd1: in_card(&s.rnd1), fa_key: in_card(&s.fa_key) };
     to.session = card.session.as_ref().map_or(NO_SESSION, open);
     to.tries = tries(card.tries);
     Image(to)
@@ -111,6 +112,18 @@ fn largest(card: &Card) -> &'static str {
         (_, true, _) => "loaded, largest B first",
         (_, _, true) => "loaded, largest B last",
         _ => "loaded, largest B between",
+    }
+}
+
+/// What a load of key sets did to the set of an open session, which the table before had at this slot; for the statistics.
+fn set_now(card: &Card, slot: Option<usize>) -> &'static str {
+    let Some(Session { id, fa_key, .. }) = &card.session else { return "no session's set" };
+    let now = card.given.sets.iter().position(|set| set.id == *id);
+    match now.map(|at| card.given.sets[at].fa_key == *fa_key) {
+        None => "its set gone",
+        Some(false) => "its set with another key",
+        Some(true) if now == slot => "its set at its slot",
+        Some(true) => "its set at another slot",
     }
 }
 
@@ -146,6 +159,15 @@ impl Second {
         self.why = self.card.as_ref().map_or(self.why, largest);
         let read = self.card.as_ref().map_or([0, 0], card::read_tries);
         Reply::Load { number, card: self.card.as_ref().map_or(Image(BLANK), image), lists_kept: true, tries: tries(read) }
+    }
+
+    fn load_sets(&mut self, sets: &[KeySet]) -> Reply {
+        let Some(card) = &mut self.card else { return Reply::NoCard };
+        let slot = card.session.as_ref().and_then(|s| card.given.sets.iter().position(|set| set.id == s.id));
+        let loaded = card::load_sets(card, sets, self.fault);
+        let (now, card, read) = (set_now(card, slot), image(card), tries(card::read_tries(card)));
+        let (number, _) = self.decided(loaded, now);
+        Reply::Sets { number, card, list_kept: true, tries: read }
     }
 
     fn command(&mut self, interface: usize, command: &[u8], fresh: &[u8], lent: &mut [u8]) -> Reply {
@@ -187,6 +209,7 @@ impl Side for Second {
     fn run(&mut self, line: &Line, lent: &mut [u8]) -> Reply {
         match line {
             Line::Load(given) => self.load(given),
+            Line::Sets(sets) => self.load_sets(sets),
             Line::Call { interface, command, fresh, .. } => self.command(*interface, command, fresh, lent),
             Line::List { ids, .. } => {
                 let (number, length) = self.decided(reader::list(ids, lent), "listed");
@@ -213,6 +236,10 @@ fn lent_value(value: &[u8]) -> Value {
     lent
 }
 
+fn lent_sets(sets: &[KeySet]) -> Vec<plaid::KeySet> {
+    sets.iter().map(|s| plaid::KeySet { id: s.id, handle: s.handle, fa_key: lent_value(&s.fa_key) }).collect()
+}
+
 #[derive(Default)]
 pub struct Library {
     card: Option<plaid::Card>,
@@ -221,9 +248,8 @@ pub struct Library {
 impl Library {
     fn load(&mut self, given: &Given) -> Reply {
         let Given { key_length, sets, modes, area, div_data, shill_key, shill_handle } = given;
-        let set = |s: &card::KeySet| plaid::KeySet { id: s.id, handle: s.handle, fa_key: lent_value(&s.fa_key) };
         let mode = |m: &Mode| plaid::Mode { id: m.id, start: m.start, len: m.len };
-        let sets: Vec<_> = sets.iter().map(set).collect();
+        let sets = lent_sets(sets);
         let modes: Vec<_> = modes.iter().map(mode).collect();
         let before = (sets.clone(), modes.clone());
         let given = plaid::given(*key_length, *div_data, lent_value(shill_key), *shill_handle);
@@ -231,6 +257,16 @@ impl Library {
         self.card = if number == 0 { Some(card) } else { None };
         let lists_kept = *std::hint::black_box(&(sets, modes)) == before;
         Reply::Load { number, card: Image(card), lists_kept, tries: plaid::run_read_tries(card) }
+    }
+
+    fn load_sets(&mut self, sets: &[KeySet]) -> Reply {
+        let Some(held) = self.card else { return Reply::NoCard };
+        let sets = lent_sets(sets);
+        let before = sets.clone();
+        let plaid::Loaded { number, card } = plaid::run_load_sets(&sets, held);
+        self.card = Some(card);
+        let list_kept = *std::hint::black_box(&sets) == before;
+        Reply::Sets { number, card: Image(card), list_kept, tries: plaid::run_read_tries(card) }
     }
 
     fn command(&mut self, interface: usize, command: &[u8], fresh: &[u8], lent: &mut [u8]) -> Reply {
@@ -275,6 +311,7 @@ impl Side for Library {
     fn run(&mut self, line: &Line, lent: &mut [u8]) -> Reply {
         match line {
             Line::Load(given) => self.load(given),
+            Line::Sets(sets) => self.load_sets(sets),
             Line::Call { interface, command, fresh, .. } => self.command(*interface, command, fresh, lent),
             Line::List { ids, .. } => {
                 let plaid::Written { number, length } = plaid::run_list(ids, lent);

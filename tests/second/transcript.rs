@@ -41,16 +41,21 @@ fn words(kind: &str, fields: &[(&str, &dyn Display)]) -> String {
     fields.iter().fold(kind.to_string(), |line, (name, value)| format!("{line} {name}={value}"))
 }
 
+fn key_sets(sets: &[KeySet]) -> String {
+    joined(sets, |s| format!("{}:{}:{}", s.id, s.handle, hex(&s.fa_key)))
+}
+
 /// The line without its result.
 pub fn question(line: &Line) -> String {
     match line {
         Line::Load(Given { key_length, sets, modes, area, div_data, shill_key, shill_handle }) => {
-            let sets = joined(sets, |s| format!("{}:{}:{}", s.id, s.handle, hex(&s.fa_key)));
+            let sets = key_sets(sets);
             let modes = joined(modes, |m| format!("{}:{}:{}", m.id, m.start, m.len));
             let (area, div, key) = (hex(area), hex(div_data), hex(shill_key));
             let given = format!("load l={key_length} sets={sets} modes={modes} area={area} div={div}");
             words(&given, &[("shill_key", &key), ("shill_handle", shill_handle)])
         }
+        Line::Sets(sets) => words("sets", &[("sets", &key_sets(sets))]),
         Line::Call { interface, command, fresh, out } => {
             words("call", &[("interface", interface), ("command", &hex(command)), ("fresh", &hex(fresh)), ("out", out)])
         }
@@ -77,6 +82,7 @@ pub fn result(seen: &Seen) -> String {
     let shown = |length: usize| hex(&seen.lent()[..length.min(seen.lent().len())]);
     match &seen.reply {
         Reply::Load { number, card, .. } => format!("number={number} reply_size={}", card.0.reply_size),
+        Reply::Sets { number, .. } => format!("number={number}"),
         Reply::Call { number, status, work, length, handle, card, tries } => {
             let start = words("", &[("number", number), ("status", status), ("comparisons", &work.comparisons)]);
             let counts = words(&start, &[("decipherments", &work.decipherments), ("encipherments", &work.encipherments)]);
@@ -101,12 +107,12 @@ pub fn result(seen: &Seen) -> String {
         Reply::Door { of, number, length } => {
             words("", &[("number", number), ("length", length), (of.words().1, &shown(*length))]).trim_start().to_string()
         }
-        Reply::NoCard => "error: a call with no loaded card before it".to_string(),
+        Reply::NoCard => "error: there is no loaded card before it".to_string(),
     }
 }
 
 fn session(card: &plaid::Card) -> String {
-    card.open_session().map_or("-".to_string(), |(id, rnd1)| format!("{id}:{}", hex(rnd1)))
+    card.open_session().map_or("-".to_string(), |(id, rnd1, key)| format!("{id}:{}:{}", hex(rnd1), hex(key)))
 }
 
 /// The values of a line that has exactly these words, in this order.
@@ -167,6 +173,10 @@ fn parse_door(line: &str) -> Option<Line> {
 pub fn parse(line: &str) -> Option<Line> {
     match line.split(' ').next()? {
         "load" => parse_load(line),
+        "sets" => {
+            let [sets] = values(line, ["sets"])?;
+            Some(Line::Sets(parted(sets, key_set)?))
+        }
         "call" => {
             let [interface, command, fresh, out] = values(line, ["interface", "command", "fresh", "out"])?;
             let (interface, out) = (interface.parse().ok()?, out.parse().ok()?);

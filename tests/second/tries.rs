@@ -29,8 +29,8 @@ const BLOCK: usize = 1_000;
 /// So many lists of random calls are made for cards with set counts.
 const LISTS: usize = 1_500;
 
-/// So many lines at the most may a fault's difference be left with.
-const FEW: usize = 3;
+/// So many lines at the most may a fault's difference be left with: a load, three tries up to a count's end, and one more.
+const FEW: usize = 5;
 
 const REFUSED: &str = "final refused";
 
@@ -77,8 +77,8 @@ impl<S: Side> Pair<S> {
         Err(format!("{wanted}\n# the other: {got}\n# differs in: {differing}\n# tries by what was refused: {contact}:{contactless}"))
     }
 
-    /// A call on both sides that has to be decided by a rule of this name.
-    fn call(&mut self, line: &Line, pattern: u64, rule: &str) -> Result<(), String> {
+    /// A line on both sides that has to be decided by a rule of this name.
+    fn decided(&mut self, line: &Line, pattern: u64, rule: &str) -> Result<(), String> {
         self.run(line, pattern)?;
         if self.second.why.starts_with(rule) { Ok(()) } else { Err(format!("{}, where {rule} was meant", self.second.why)) }
     }
@@ -87,7 +87,9 @@ impl<S: Side> Pair<S> {
 /// Whether the card, and what is read of it, has these counts.
 fn has_counts(seen: &Seen, counts: Tries) -> bool {
     match &seen.reply {
-        Reply::Load { number: 0, card, tries, .. } | Reply::Call { card, tries, .. } => card.0.tries == counts && *tries == counts,
+        Reply::Load { number: 0, card, tries, .. } | Reply::Sets { card, tries, .. } | Reply::Call { card, tries, .. } => {
+            card.0.tries == counts && *tries == counts
+        }
         _ => true,
     }
 }
@@ -99,9 +101,13 @@ const MODE: u16 = 7;
 const FA_KEY: [u8; 16] = *b"FAKey of the set";
 const DIV_DATA: [u8; 16] = *b"DivData: a card.";
 
+fn key_sets(fa_key: [u8; 16]) -> Vec<KeySet> {
+    vec![KeySet { id: KEY_SET, handle: 1, fa_key: fa_key.to_vec() }]
+}
+
 /// L = 16 and B = 2, so that a command takes few steps.
 fn small_card() -> Line {
-    let sets = vec![KeySet { id: KEY_SET, handle: 1, fa_key: FA_KEY.to_vec() }];
+    let sets = key_sets(FA_KEY);
     let (modes, shill_key) = (vec![Mode { id: MODE, start: 0, len: 4 }], b"shill key, AES's".to_vec());
     Line::Load(Given { key_length: 16, sets, modes, area: b"door".to_vec(), div_data: DIV_DATA, shill_key, shill_handle: 9 })
 }
@@ -134,12 +140,15 @@ impl<S: Side> Counting<S> {
         Counting { pair: Pair::new(other), random: Random(seed), calls: 0, tally: Tally::default() }
     }
 
-    /// A whole number of blocks without a difference is so many tests passed.
     fn call(&mut self, interface: usize, made: Made) -> Result<(), String> {
         let Made { command, fresh, out, rule } = made;
-        let line = Line::Call { interface, command, fresh, out };
+        self.line(&Line::Call { interface, command, fresh, out }, rule)
+    }
+
+    /// A whole number of blocks without a difference is so many tests passed.
+    fn line(&mut self, line: &Line, rule: &str) -> Result<(), String> {
         let pattern = self.random.next();
-        self.pair.call(&line, pattern, rule).map_err(|wrong| format!("call {}, {} => {wrong}", self.calls + 1, question(&line)))?;
+        self.pair.decided(line, pattern, rule).map_err(|wrong| format!("call {}, {} => {wrong}", self.calls + 1, question(line)))?;
         self.calls += 1;
         if self.calls % BLOCK == 0 {
             self.tally.count(true);
@@ -186,11 +195,19 @@ impl<S: Side> Counting<S> {
         Ok(command)
     }
 
+    /// Loads of key sets into an open session: another key, none, and the first key again.
+    fn loads(&mut self) -> Result<(), String> {
+        self.line(&Line::Sets(key_sets(*b"another FAKey of")), "its set with another key")?;
+        self.line(&Line::Sets(Vec::new()), "no key set")?;
+        self.line(&Line::Sets(key_sets(FA_KEY)), "its set at its slot")
+    }
+
     /// Calls of every other kind by this interface, among them longer final commands that are refused.
     fn others(&mut self, interface: usize) -> Result<(), String> {
         for first in [0, 1] {
             let command = self.opened(first)?;
             self.declined(interface, &command)?;
+            self.loads()?;
             self.good(interface, command, "final accepted")?;
         }
         let mut command = self.opened(interface)?;

@@ -201,9 +201,13 @@ fn change(data: &mut [u8], at: usize, to: u8) {
     }
 }
 
-/// A final command for the card's session, or for none; right in everything or wrong in something.
+/// A final command for the card's session, or for none; right in everything or wrong in something. A few are under a key that the table has now.
 fn final_command(random: &mut Random, card: &Card) -> Vec<u8> {
-    let (fa_key, rnd1) = final_keys(card);
+    let (mut fa_key, rnd1) = final_keys(card, Fault::None);
+    if random.percent(5) {
+        let own = card.given.sets.iter().find(|set| card.session.as_ref().is_some_and(|s| s.id == set.id)).cloned();
+        fa_key = own.unwrap_or_else(|| random.pick(&card.given.sets)).fa_key;
+    }
     let mode = if random.percent(92) { random.pick(&card.given.modes).id } else { id(random) };
     let (key_length, div_data) = (card.given.key_length, card.given.div_data);
     let of = Sealing { key_length, fa_key, div_data, rnd1, rnd2: random.bytes(key_length), mode };

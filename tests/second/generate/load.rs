@@ -1,8 +1,9 @@
-//! Loads, right and wrong.
+//! Loads, right and wrong: of a card, and of key sets onto one.
 
-use super::{distinct_ids, key_length, off_value};
-use crate::card::{Given, KeySet, Mode};
+use super::{MOST_SETS, distinct_ids, id, key_length, off_value};
+use crate::card::{Card, Given, KeySet, Mode};
 use crate::keys::LENGTHS;
+use crate::line::Line;
 use crate::random::Random;
 
 /// A load that is accepted.
@@ -65,6 +66,56 @@ pub fn any(random: &mut Random) -> Given {
         }
     }
     given
+}
+
+/// Key sets for a card as it is: its own with some changes, or others. Some lists are wrong in one way or in several.
+pub fn onto(random: &mut Random, card: &Card) -> Line {
+    let (length, shill_handle) = (card.given.key_length, card.given.shill_handle);
+    let count = random.edge(&[1, 2, 8], 1, 8);
+    let mut list = if random.percent(80) { changed(random, card) } else { sets(random, count, length, shill_handle) };
+    let faults = random.pick(&[0, 0, 0, 0, 1, 1, 2, 3]);
+    if faults > 0 && random.percent(30) {
+        let count = random.edge(&[0, 9, 9], 0, MOST_SETS);
+        list = sets(random, count, length, shill_handle);
+    }
+    for _ in 0..faults {
+        match random.below(4) {
+            0 => change(random, &mut list, |random, set| set.fa_key = off_value(random, length)),
+            1 => repeat(random, &mut list, |to, from| to.id = from.id),
+            2 => change(random, &mut list, |_, set| set.handle = shill_handle),
+            _ => {}
+        }
+    }
+    Line::Sets(list)
+}
+
+/// The card's own key sets after a few changes, the most of them to the set of an open session.
+fn changed(random: &mut Random, card: &Card) -> Vec<KeySet> {
+    let mut list = card.given.sets.clone();
+    for _ in 0..random.pick(&[0, 1, 1, 2, 3]) {
+        let own = list.iter().position(|set| card.session.as_ref().is_some_and(|s| s.id == set.id));
+        let any = random.below(list.len());
+        let at = own.filter(|_| random.percent(70)).unwrap_or(any);
+        match random.below(8) {
+            0 if list.len() > 1 => drop(list.remove(at)),
+            1..4 => list[at].fa_key = random.bytes(card.given.key_length),
+            4 => list[at].id = new_id(random, &list),
+            5 => list[at].handle = list[any].handle,
+            6 => list.swap(at, any),
+            _ if list.len() < 8 => {
+                let id = new_id(random, &list);
+                list.insert(any, KeySet { id, ..list[at].clone() });
+            }
+            _ => list.reverse(),
+        }
+    }
+    list
+}
+
+/// A KeySetID that none of these sets has.
+fn new_id(random: &mut Random, list: &[KeySet]) -> u16 {
+    let next = id(random);
+    if list.iter().any(|set| set.id == next) { new_id(random, list) } else { next }
 }
 
 /// Any number of modes, each with the record of the first.

@@ -1,5 +1,5 @@
-//! Whole sessions: load, List, initial command, Open, Seal, final command, Accept. The platform's RSA is played by handing the card's
-//! block to the entry whose set made it, and other bytes to the others.
+//! Whole sessions: load, List, initial command, Open, Seal, final command, Accept; and loads of key sets among them. The platform's RSA is
+//! played by handing the card's block to the entry whose set made it, and other bytes to the others.
 
 use super::{Case, UNKNOWN_INTERFACES, command, distinct_ids, follow, id, key_length, load, reader};
 use crate::card::{self, Card, Mode, filled};
@@ -31,13 +31,16 @@ impl Play<'_> {
     fn run(&mut self) -> Option<Vec<u8>> {
         let ids = self.listed();
         self.lines.push(Line::List { out: 4 * ids.len() + 8 + self.random.below(3), ids: ids.clone() });
+        self.load_sets();
         let block = self.command(framed(0x87, &id_list(&ids)));
+        let held = self.card.given.sets.clone();
+        self.load_sets();
         let winner = ids.iter().position(|id| self.card.session.as_ref().is_some_and(|s| s.id == *id));
         let blocks = self.decrypted(&ids, winner, &block);
         let key_length = self.key_length(self.card.given.key_length);
         self.lines.push(Line::Open { key_length, ids: ids.clone(), blocks: blocks.clone() });
         let opened = open(key_length, &ids, &blocks).ok()?;
-        let set = self.card.given.sets.iter().find(|s| s.id == opened.id);
+        let set = held.iter().find(|s| s.id == opened.id);
         let fa_key = set.map_or(vec![0; key_length], |s| s.fa_key.clone());
         self.disturb();
         let (rnd2, mode) = (self.random.bytes(key_length), id(self.random));
@@ -100,6 +103,15 @@ impl Play<'_> {
         blocks
     }
 
+    /// Sometimes key sets are loaded. That is no command, and the promise means the table at the initial command.
+    fn load_sets(&mut self) {
+        while self.random.percent(12) {
+            let line = load::onto(self.random, &self.card);
+            follow(&mut self.card, &line);
+            self.lines.push(line);
+        }
+    }
+
     /// Sometimes the card gets another command in between.
     fn disturb(&mut self) {
         if self.random.percent(8) {
@@ -127,6 +139,7 @@ impl Play<'_> {
         let room = sealed.as_ref().map_or(246, |(length, _)| length + self.random.below(3));
         self.lines.push(Line::Seal { of: of.clone(), payload, out: room });
         let (length, mut keys_hash) = sealed?;
+        self.load_sets();
         let mut response = self.command(out[..length].to_vec());
         if self.random.percent(4) {
             self.promised = false;
