@@ -1,5 +1,5 @@
 /*
- * PLAID (ISO/IEC 25185-1), both ends: the card's load and commands, and the
+ * PLAID (ISO/IEC 25185-1), both ends: the card's loads and commands, and the
  * reader's List, Open, Seal and Accept; and the door system's numbers, from
  * text to record and back. This header is their manual.
  *
@@ -22,6 +22,18 @@
  * To a stranger a card never refuses. A refused command is answered like an
  * accepted one, with the same length and status 9000, under the shill keys.
  *
+ * Key change
+ *
+ *   A card gets other key sets at any time, also between the two commands of a
+ *   session:
+ *
+ *   personaliser   plaid_load_sets   puts key sets in the place of the card's
+ *
+ *   A session that is open then goes on with the FAKey that it was opened with,
+ *   and ends under it. The next one uses the new key sets. The reader does the
+ *   same where its own keys are changed: it seals with the FAKey that the set
+ *   had at List.
+ *
  * Failed tries
  *
  *   A card counts the final commands that it refused, those over its contacts
@@ -34,8 +46,8 @@
  * Door numbers
  *
  *   A door system exports Wiegand numbers and UUIDs as text; a card holds them
- *   as records of 4 and 16 bytes. Before a load the personaliser turns text to
- *   record, and behind Accept the reader turns a record to text:
+ *   as records of 4 and 16 bytes. Before plaid_load the personaliser turns text
+ *   to record, and behind Accept the reader turns a record to text:
  *
  *     a Wiegand number   plaid_wiegand_record   plaid_wiegand_text
  *     a UUID             plaid_uuid_record      plaid_uuid_text
@@ -108,21 +120,25 @@
  *   platform that wants no final command on one interface behind an initial
  *   command on the other takes the change for a reset.
  *
- *   A power cycle or a reset ends the session; the counts of failed tries
- *   outlive it. The card's platform goes on from the card that the last
- *   plaid_command returned, with its session closed: all fields of `session`
- *   set to 0. It does NOT go back to the card that plaid_load returned. That
- *   one has counts of 0, and a stranger would clear them by a reset.
+ *   A power cycle or a reset ends the session; the counts of failed tries and
+ *   the key sets outlive it. The card's platform goes on from the card that the
+ *   last plaid_command or plaid_load_sets returned, with its session closed:
+ *   all fields of `session` set to 0. It does NOT go back to the card that
+ *   plaid_load returned. That one has counts of 0, and a stranger would clear
+ *   them by a reset; and it has the first key sets, which would be good again.
  *
  *   Where memory is lost with the power, the platform keeps the counts in
- *   lasting memory. From one command to the next a card changes in `session`
- *   and `tries` alone. So the card that plaid_load returned, with `tries` as
- *   they were kept, is the card to start from.
- *   It writes them before the answer is sent, or 61 with T=0: else a stranger
- *   who pulls the card early is not counted. It writes each time a final
- *   command ran, accepted or refused, whether or not a count has changed, and
- *   by the same steps: else the time of the write tells the two apart. The
+ *   lasting memory, and the key sets that a plaid_load_sets put in the place of
+ *   the first. A command changes a card in `session` and `tries` alone, and
+ *   plaid_load_sets in `sets` alone. So the card that plaid_load returned, with
+ *   `sets` and `tries` as they were kept, is the card to start from.
+ *   It writes the counts before the answer is sent, or 61 with T=0: else a
+ *   stranger who pulls the card early is not counted. It writes each time a
+ *   final command ran, accepted or refused, whether or not a count has changed,
+ *   and by the same steps: else the time of the write tells the two apart. The
  *   memory has to bear as many writes as strangers send final commands.
+ *   It writes the key sets before the next command runs, and in such a way that
+ *   a card which is pulled meanwhile has all the old ones or all the new ones.
  *
  *   T=1 and contactless cards carry a command and its answer whole, as
  *   plaid_command takes and gives them. T=0 does not; there the platforms map.
@@ -163,7 +179,8 @@
  *   only keys whose modulus has 2048 bits: then one subtraction is enough.
  *   Where an operation itself fails, it hands over 256 zero bytes too.
  *
- * Secrets. A card holds its keys and records as they are. FAKeys, the shill
+ * Secrets. A card holds its keys and records as they are, and an open session
+ * its FAKey, though the card may not hold that set any more. FAKeys, the shill
  * key, fresh bytes, RND1, RND2, KeysHash, a block before encryption or after
  * decryption, and the record, as bytes and as text, are secrets. The caller
  * erases its copies, a card that was replaced too, by a function that no
@@ -252,9 +269,10 @@ typedef char plaid_size_is_64_bits[sizeof(size_t) == 8 ? 1 : -1];
  * the library's machine code reserves, written or not, in its deepest chain
  * of calls. It is the greater of the two, in whole sixteens.
  */
-#define PLAID_STACK_LOAD 5776
-#define PLAID_STACK_COMMAND 9264
-#define PLAID_STACK_READ_TRIES 1840
+#define PLAID_STACK_LOAD 7152
+#define PLAID_STACK_LOAD_SETS 9040
+#define PLAID_STACK_COMMAND 9296
+#define PLAID_STACK_READ_TRIES 1872
 #define PLAID_STACK_LIST 96
 #define PLAID_STACK_OPEN 208
 #define PLAID_STACK_SEAL 1680
@@ -281,13 +299,14 @@ typedef char plaid_size_is_64_bits[sizeof(size_t) == 8 ? 1 : -1];
 
 /* plaid_load, plaid_open, plaid_seal, plaid_accept: first of all */
 #define PLAID_DECLINE_KEY_LENGTH 21       /* L is not 16, 24 or 32 */
-/* plaid_load, behind 1; plaid_seal, plaid_accept, behind 21 */
+/* plaid_load, plaid_load_sets, behind 1; plaid_seal, plaid_accept, behind 21 */
 #define PLAID_DECLINE_VALUE_LENGTH 22     /* a key, RND or KeysHash that is
                                              not of L bytes */
-/* plaid_load */
+/* plaid_load, plaid_load_sets */
 #define PLAID_DECLINE_KEY_SET_COUNT 1     /* not 1 to 8 key sets */
 #define PLAID_DECLINE_KEY_SET_REPEATED 2  /* two sets with one KeySetID */
 #define PLAID_DECLINE_SHILL_HANDLE 3      /* a set has the shill handle */
+/* plaid_load */
 #define PLAID_DECLINE_MODE_COUNT 4        /* not 1 to 16 modes */
 #define PLAID_DECLINE_MODE_REPEATED 5     /* two modes with one OpModeID */
 #define PLAID_DECLINE_RECORD 6            /* area over 1024, or a record that
@@ -395,11 +414,16 @@ typedef struct plaid_mode_slot {
     size_t len;
 } plaid_mode_slot;
 
-/* No session, or an open one. Where opened is false its other fields are 0. */
+/*
+ * No session, or an open one. Where opened is false its other fields are 0. The
+ * FAKey is the one that the key set had at the initial command, whatever sets
+ * the card holds since.
+ */
 typedef struct plaid_session {
     bool opened;
     plaid_key_set_id id;
     uint8_t rnd1[PLAID_VALUE_MOST];     /* the first L */
+    uint8_t fa_key[PLAID_VALUE_MOST];   /* the first L */
 } plaid_session;
 
 /*
@@ -412,10 +436,10 @@ typedef struct plaid_tries {
 } plaid_tries;
 
 /*
- * A card. Only plaid_load makes one and only plaid_command changes one; read
- * its fields, but write none. The one exception is the start after a power
- * cycle or a reset, which closes the session and puts back counts that were
- * kept elsewhere: see "On the line".
+ * A card. Only plaid_load makes one, and only plaid_command and plaid_load_sets
+ * change one; read its fields, but write none. The one exception is the start
+ * after a power cycle or a reset, which closes the session and puts back counts
+ * and key sets that were kept elsewhere: see "On the line".
  */
 typedef struct plaid_card {
     plaid_key_set_slot sets[PLAID_CARD_KEY_SETS];
@@ -430,6 +454,7 @@ typedef struct plaid_card {
     plaid_tries tries;
 } plaid_card;
 
+/* What plaid_load and plaid_load_sets hand back. */
 typedef struct plaid_loaded {
     uint8_t number;                     /* 0; 1 to 6, 21, 22 */
     plaid_card card;
@@ -507,6 +532,67 @@ plaid_loaded plaid_load(const plaid_key_set *sets, size_t set_count,
                         const uint8_t *area, size_t area_len);
 
 /*
+ * Loads key sets onto a card, in the place of those that it holds.
+ *
+ * In: 1 to 8 key sets, as plaid_load takes them; and the card, at any time,
+ * also in a session. Any set_count is taken, and a wrong one is declined.
+ * `sets` points to set_count key sets.
+ *
+ * Back: number 0 and the next card. It holds these key sets and no others: they
+ * fill its slots from the first on, in the order given, as behind plaid_load.
+ * All else is as it was: L, modes, area, DivData, shill keys, B, session and
+ * failed tries.
+ *
+ * Declines, in the order in which they are tested:
+ *    1  set_count is 0, or over 8
+ *   22  the FAKey of a set is not of the card's L bytes
+ *    2  two key sets have the same KeySetID
+ *    3  a key set has the card's shill handle
+ * The card handed back is then the old one, every field: it keeps its key sets
+ * and its session.
+ *
+ * So THE CARD HANDED BACK REPLACES THE OLD ONE here too, whatever the number. A
+ * load and a command on one card come one behind the other, each on the card
+ * that the other handed back. One that gets an older value takes back what the
+ * other did.
+ *
+ * In a session. The session keeps the FAKey that its key set had at the initial
+ * command. A load that drops that set, or gives its KeySetID another key, makes
+ * no difference to the final command: sealed with the old FAKey it is accepted,
+ * with the new one refused. The next initial command finds the new key sets
+ * alone. From there on a reader with an old FAKey gets 20, and one with an old
+ * RSA key, or with KeySetIDs that are gone, gets 15. So that no reader is left
+ * out, give a new key a new KeySetID, and let the readers list both for a time.
+ *
+ * Keys that leaked. A load does not end a session that was opened under one. To
+ * end it too, close it as at a reset: see "On the line".
+ *
+ * A load is no command. It has no answer and makes no steps, and on the line
+ * only what later sessions come to tells of it. The library does not judge who
+ * loads: the platform takes key sets from the personaliser, and never by the
+ * way that commands come.
+ *
+ * What the platform sees to:
+ *   - The public RSA key of each new handle is there before the load. Else the
+ *     next initial command for that set is answered 6F00, which tells a
+ *     stranger that the card holds it.
+ *   - A new RSA key gets a new handle. Then the old key sets are good until the
+ *     load, and behind a declined one. It is not the shill handle's key, which
+ *     3 does not see: see plaid_load, "Shill keys".
+ *   - An initial answer is encrypted before the next load. Behind that its
+ *     session needs no RSA on the card, so a key whose handle no set has any
+ *     more may go.
+ *   - The new key sets outlive a power cycle: see "On the line".
+ *   - The old FAKeys are erased, with the card that was replaced and wherever
+ *     else they were kept. An open session's stands in the next card until the
+ *     session closes: by its final command, the next initial one, or a reset.
+ *
+ * Written: nothing.
+ */
+plaid_loaded plaid_load_sets(const plaid_key_set *sets, size_t set_count,
+                             plaid_card card);
+
+/*
  * What a command call answers beside the output. The counts of steps are for
  * tests and audits; they stay in the card's side and are not sent.
  */
@@ -544,9 +630,10 @@ typedef struct plaid_outcome {
  * Back: the answer, the work sum and the next card. THE CARD HANDED BACK
  * REPLACES THE OLD ONE, after each call, declined ones too. To use an old value
  * again is to roll the session back: a final command that was answered once
- * would be answered again; and a failed try would not be counted. After a power
- * cycle or a reset, go on from the last card with its session closed, and not
- * from the card that the load returned: see "On the line".
+ * would be answered again; a failed try would not be counted; and key sets that
+ * were changed would be good again. After a power cycle or a reset, go on from
+ * the last card with its session closed, and not from the card that plaid_load
+ * returned: see "On the line".
  *
  * A command is CLA 00, INS 87 or 86, P1 P2 0000, Lc from 1 to 255, Lc data
  * bytes, Le 00: Lc + 6 bytes in all.
@@ -573,7 +660,7 @@ typedef struct plaid_outcome {
  *   `handle`: 00 02, the pad bytes, 00, and 50, 66 or 82 bytes.
  *   accepted: those are KeySetID, DivData, RND1 and RND1 again, where RND1 is
  *       the first L fresh bytes. The handle is that key set's. The session
- *       opens, and replaces any other.
+ *       opens, with that set's FAKey, and replaces any other.
  *   refused (no set in common, or a malformed list): those are the first 50, 66
  *       or 82 fresh bytes. The handle is the shill handle. No session is open.
  *   counts: 8 floor(Lc / 4) comparisons, whatever the list's form; the rest 0.
@@ -584,6 +671,8 @@ typedef struct plaid_outcome {
  *   accepted: record, filler (see plaid_load), DivData and padding, by CBC
  *       under KeysHash. B blocks, whichever record it is.
  *   refused: the first 16 B fresh bytes, by CBC under the shill key.
+ *   The FAKey is the session's own. Key sets that were loaded since the initial
+ *   command make no difference.
  *   The session closes either way. A payload is checked with the rest and not
  *   used.
  *   counts: 16 comparisons, floor(Lc / 16) decipherments, B + 1 encipherments
@@ -635,15 +724,15 @@ plaid_outcome plaid_command(plaid_card card, size_t interface,
  *
  * In: the card, at any time, also in a session.
  *
- * Back: how many final commands it refused since its load, by interface, as
- * `tries` of the card has them. 65535 is that many or more. Reading changes
- * nothing: the card goes on as it was, and no call sets a count back to 0 but a
- * new load, which makes a new card.
+ * Back: how many final commands it refused since plaid_load made it, by
+ * interface, as `tries` of the card has them. 65535 is that many or more.
+ * Reading changes nothing: the card goes on as it was. No call sets a count
+ * back to 0, a load of key sets neither; plaid_load makes a new card.
  *
  * A count does not tell why. Strangers are in it, and so are our own readers
- * with a wrong FAKey or a mode that the card does not hold, and two programs
- * that take turns at one card. A stranger who sends initial commands alone is
- * not.
+ * with a wrong FAKey, or an old one, or a mode that the card does not hold, and
+ * two programs that take turns at one card. A stranger who sends initial
+ * commands alone is not.
  *
  * Guard the counts. Who sees them before and after a command knows whether it
  * was refused, which the answer hides. No command of the library sends them; a

@@ -29,6 +29,8 @@ static long exchange(void *line, const uint8_t *command, size_t command_len, uin
     x->in_session = b->card.session.opened;
     x->set = b->card.session.id;
     memcpy(answer, x->reply.bytes, length);
+    if (b->fault.between && x == &b->initial)
+        b->fault.between(b, b->fault.told);
     return (long)length;
 }
 
@@ -87,7 +89,7 @@ static size_t reader_length(const bench *b)
 static void prepare_reader(bench *b, const example_mode *mode)
 {
     b->plan.key_length = reader_length(b);
-    (b->fault.no_common_set ? example_strange_reader : example_reader)(b->plan.key_length, b->sets);
+    (b->fault.no_common_set ? example_strange_reader : b->fault.new_key ? example_new_reader : example_reader)(b->plan.key_length, b->sets);
     if (b->fault.wrong_key)
         b->sets[1].fa_key.bytes[0] ^= 0x01;
     if (b->fault.short_key)
@@ -162,6 +164,17 @@ bool bench_run_again(bench *b, size_t interface, const example_mode *mode, bench
     b->exchanges = 0;
     prepare_reader(b, mode);
     return run(b);
+}
+
+void bench_load_sets(bench *b, const plaid_key_set *sets, size_t count)
+{
+    plaid_key_set other;
+    example_new_other_set(b->other.key_length, &other);
+    b->before = b->card;
+    b->loaded = card_load_sets(&b->card, sets, count);
+    b->behind = b->card;
+    card_load_sets(&b->other, &other, 1);
+    platform_erase(&other, sizeof other);
 }
 
 bool bench_run_other_list(bench *b, size_t key_length, const example_mode *mode)

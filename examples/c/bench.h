@@ -20,7 +20,11 @@ typedef struct {
     plaid_key_set_id set; /* of this key set */
 } bench_exchange;
 
-/* How a session goes wrong; with nothing set it does not. */
+/* What is done between the two commands of a session, once the first is answered; and what it is told. */
+typedef struct bench bench;
+typedef void bench_between(bench *b, const void *told);
+
+/* How a session goes wrong, or what else falls into it; with nothing set it is a plain one. */
 typedef struct {
     bool no_common_set;
     bool wrong_key;
@@ -30,10 +34,15 @@ typedef struct {
     bool other_length; /* the reader has another L, and the keys to it */
     bool no_length;    /* the reader's L is none of the three */
     bool short_key;    /* the reader's FAKey has a byte too few */
+    bool new_key;      /* the reader has the FAKey that a key change brings */
+    bench_between *between;
+    const void *told;
 } bench_fault;
 
-typedef struct {
+struct bench {
     plaid_card card, other;
+    plaid_card before, behind; /* the card before the last load of key sets, and behind it, */
+    int loaded;                /* and what card_load_sets returned */
     size_t interface; /* that the commands come in by, for both cards */
     bench_fault fault;
     plaid_key_set sets[PLAID_LIST_IDS]; /* the reader's */
@@ -42,7 +51,7 @@ typedef struct {
     int number; /* what reader_run returned */
     size_t exchanges;
     bench_exchange initial, final;
-} bench;
+};
 
 /* Loads the RSA keys of the cards and the readers. False where one is not there. */
 bool bench_keys(void);
@@ -52,6 +61,9 @@ bool bench_run(bench *b, size_t interface, size_t key_length, const example_mode
 
 /* The next session of the same cards. */
 bool bench_run_again(bench *b, size_t interface, const example_mode *mode, bench_fault fault);
+
+/* A key change: loads key sets onto the card, and another set of its own onto the other one. */
+void bench_load_sets(bench *b, const plaid_key_set *sets, size_t count);
 
 /*
  * One with new cards over the contacts, nothing wrong, and the list of another maker's reader in the place of ours: the same KeySetIDs,

@@ -64,7 +64,19 @@ void card_serve(plaid_card *card, size_t interface, const uint8_t *command, size
     platform_erase(fresh, sizeof fresh);
 }
 
-/* Zeros in every field: no session is open. RND1 is a secret. */
+int card_load_sets(plaid_card *card, const plaid_key_set *sets, size_t count)
+{
+    plaid_loaded next = plaid_load_sets(sets, count, *card);
+    int number = next.number;
+    if (number == PLAID_DONE && !card_keys(&next.card))
+        number = CARD_NO_KEY; /* a set whose RSA key is missing is not taken: each session with it would end with 6F00 */
+    else
+        *card = next.card; /* whatever the number: declined, it is the old one */
+    platform_erase(&next, sizeof next);
+    return number;
+}
+
+/* Zeros in every field: no session is open. RND1 and FAKey are secrets. */
 void card_reset(plaid_card *card)
 {
     platform_erase(&card->session, sizeof card->session);

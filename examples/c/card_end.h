@@ -1,4 +1,4 @@
-/* The card's end: one command, from its bytes to the bytes of the answer. */
+/* The card's end: one command, from its bytes to the bytes of the answer; a load of key sets; a reset. */
 #ifndef CARD_END_H
 #define CARD_END_H
 
@@ -42,6 +42,16 @@ void card_answer(plaid_card *card, size_t interface, const uint8_t *command, siz
 
 /* The same with fresh bytes of its own, for the card's L, which are erased. Without any the card stays as it was. */
 void card_serve(plaid_card *card, size_t interface, const uint8_t *command, size_t command_len, card_reply *reply);
+
+/* An RSA key is not there: a number beside those of plaid.h, which stay below it. */
+#define CARD_NO_KEY 101
+
+/*
+ * Puts key sets in the place of those that the card holds, once the public RSA keys of their handles are loaded. Returns 0; or the number
+ * of the decline or CARD_NO_KEY, and the card holds the old ones. Nothing is sent. A session that is open goes on under its old FAKey. A
+ * product whose memory does not outlive the power writes the new table to lasting memory here, whole or not at all.
+ */
+int card_load_sets(plaid_card *card, const plaid_key_set *sets, size_t count);
 
 /*
  * A power cycle or a reset: the session ends, and the counts of failed tries stay. A product whose memory does not outlive the power writes

@@ -20,6 +20,9 @@ static const uint8_t records[] = {
 #define SET_301 {{0x0301}, 0x21, {32, "FAKey of set 301 of 24, 32 bytes"}}
 #define SET_302 {{0x0302}, 0x22, {32, "FAKey of set 302 of 24, 32 bytes"}}
 #define SET_7777 {{0x7777}, 0x12, {32, "FAKey of set 777 of 24, 32 bytes"}}
+#define NEW_102 {{0x0102}, 0x11, {32, "FAKey NEW of 102 of 24, 32 bytes"}}
+#define SET_204 {{0x0204}, 0x12, {32, "FAKey of set 204 of 24, 32 bytes"}}
+#define SET_7778 {{0x7778}, 0x12, {32, "FAKey of set 778 of 24, 32 bytes"}}
 
 /* A value of L bytes: the first of its 32, with zeros behind them. */
 static void shorten(plaid_value *value, size_t key_length)
@@ -35,18 +38,40 @@ static void shorten_sets(plaid_key_set *sets, size_t count, size_t key_length)
         shorten(&sets[i].fa_key, key_length);
 }
 
+static void copy_sets(plaid_key_set *to, const plaid_key_set *from, size_t count, size_t key_length)
+{
+    memcpy(to, from, count * sizeof *from);
+    shorten_sets(to, count, key_length);
+}
+
+void example_new_sets(size_t key_length, plaid_key_set to[EXAMPLE_NEW_SETS])
+{
+    static const plaid_key_set sets[EXAMPLE_NEW_SETS] = {SET_204, NEW_102};
+    copy_sets(to, sets, EXAMPLE_NEW_SETS, key_length);
+}
+
+void example_new_other_set(size_t key_length, plaid_key_set *to)
+{
+    static const plaid_key_set set = SET_7778;
+    copy_sets(to, &set, 1, key_length);
+}
+
 void example_reader(size_t key_length, plaid_key_set to[EXAMPLE_READER_SETS])
 {
     static const plaid_key_set sets[EXAMPLE_READER_SETS] = {SET_301, SET_102};
-    memcpy(to, sets, sizeof sets);
-    shorten_sets(to, EXAMPLE_READER_SETS, key_length);
+    copy_sets(to, sets, EXAMPLE_READER_SETS, key_length);
+}
+
+void example_new_reader(size_t key_length, plaid_key_set to[EXAMPLE_READER_SETS])
+{
+    static const plaid_key_set sets[EXAMPLE_READER_SETS] = {SET_301, NEW_102};
+    copy_sets(to, sets, EXAMPLE_READER_SETS, key_length);
 }
 
 void example_strange_reader(size_t key_length, plaid_key_set to[EXAMPLE_READER_SETS])
 {
     static const plaid_key_set sets[EXAMPLE_READER_SETS] = {SET_301, SET_302};
-    memcpy(to, sets, sizeof sets);
-    shorten_sets(to, EXAMPLE_READER_SETS, key_length);
+    copy_sets(to, sets, EXAMPLE_READER_SETS, key_length);
 }
 
 bool example_key_length(int *argc, char ***argv, size_t *key_length)

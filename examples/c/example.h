@@ -16,9 +16,17 @@ plaid_loaded example_card(size_t key_length);
 /* Another card with the same shill keys, L and reply size: other key set, other mode, other record of another length. */
 plaid_loaded example_other_card(size_t key_length);
 
+/* The key sets that a key change brings: 0204, and 0102 with another FAKey. 0203 goes. The other card gets another set of its own. */
+#define EXAMPLE_NEW_SETS 2
+void example_new_sets(size_t key_length, plaid_key_set to[EXAMPLE_NEW_SETS]);
+void example_new_other_set(size_t key_length, plaid_key_set *to);
+
 /* The reader's key sets in order of preference, 0301 and 0102; the handle names its private RSA key. */
 #define EXAMPLE_READER_SETS 2
 void example_reader(size_t key_length, plaid_key_set to[EXAMPLE_READER_SETS]);
+
+/* The same behind the key change. */
+void example_new_reader(size_t key_length, plaid_key_set to[EXAMPLE_READER_SETS]);
 
 /* A reader that has no set in common with the card: 0301 and 0302. */
 void example_strange_reader(size_t key_length, plaid_key_set to[EXAMPLE_READER_SETS]);

@@ -1,9 +1,9 @@
 /*
  * Sessions to watch: a card and a reader on the bench, for each of the card's two records, each message with its fields in words; one that
- * another maker's list opens; one with keys of 24 bytes, one with keys of 32; then one refused session of each kind, as a stranger sees it
- * and as the key holder sees it; a card's counts of failed tries; and what the library declines for its lengths. Each record stands in the
- * door system's form too; at the end such texts become the records again, and others are declined. Exit status 1 where something was not as
- * expected.
+ * another maker's list opens; one with keys of 24 bytes, one with keys of 32; one that a key change falls into, and the next one of that
+ * card; then one refused session of each kind, as a stranger sees it and as the key holder sees it; a card's counts of failed tries; and
+ * what the library declines for its lengths. Each record stands in the door system's form too; at the end such texts become the records
+ * again, and others are declined. Exit status 1 where something was not as expected.
  *
  *   watch [KEYS]      KEYS: the folder of RSA keys; none: the stand-in, which the output names
  */
@@ -52,13 +52,20 @@ static void show_value(const char *name, const plaid_value *value)
     show_field(name, value->bytes, value->length, "");
 }
 
+static void show_sets(const char *name, const plaid_card *card)
+{
+    printf("    %-10s  ", name);
+    for (size_t i = 0; i < PLAID_CARD_KEY_SETS && card->sets[i].held; i++)
+        printf("%s%04X (RSA key %02X)", i > 0 ? ", " : "", card->sets[i].id.value, card->sets[i].handle);
+    printf("\n");
+}
+
 static void show_card(const plaid_card *card)
 {
     size_t filled = 16 * (card->reply_size - 2);
-    printf("THE CARD AS LOADED\n    key sets    ");
-    for (size_t i = 0; i < PLAID_CARD_KEY_SETS && card->sets[i].held; i++)
-        printf("%s%04X (RSA key %02X)", i > 0 ? ", " : "", card->sets[i].id.value, card->sets[i].handle);
-    printf("\n    modes       ");
+    printf("THE CARD AS LOADED\n");
+    show_sets("key sets", card);
+    printf("    modes       ");
     for (size_t i = 0; i < PLAID_CARD_MODES && card->modes[i].held; i++)
         printf("%s%04X (record of %zu bytes)", i > 0 ? ", " : "", card->modes[i].id.value, card->modes[i].len);
     printf("\n    key length  L = %zu: FAKeys, shill key, RND1, RND2 and KeysHash have %zu bytes\n", card->key_length, card->key_length);
@@ -124,6 +131,28 @@ static void show_opened(const bench *b)
         printf("    entry %zu     KeySetID %04X  %s\n", i, b->sets[i].id.value, i < o->place ? "does not open" : "opens, so this set wins");
     show_field("DivData", o->div_data, PLAID_DIV_DATA, "");
     show_value("RND1", &o->rnd1);
+}
+
+/* The FAKey of a KeySetID in a card's table; NULL where the card does not hold it. */
+static const uint8_t *key_in_table(const plaid_card *card, plaid_key_set_id id)
+{
+    for (size_t i = 0; i < PLAID_CARD_KEY_SETS; i++)
+        if (card->sets[i].held && card->sets[i].id.value == id.value)
+            return card->sets[i].fa_key;
+    return NULL;
+}
+
+/* A load of key sets that gave the open session's set another FAKey. */
+static void show_change(const bench *b)
+{
+    const plaid_session *open = &b->behind.session;
+    printf("\nBETWEEN THE TWO COMMANDS: key sets are loaded onto the card. Nothing is sent.\n");
+    show_sets("old table", &b->before);
+    show_sets("new table", &b->behind);
+    show_field("old FAKey", open->fa_key, b->card.key_length, "in the session");
+    show_field("new FAKey", key_in_table(&b->behind, open->id), b->card.key_length, "in the table");
+    printf("    The session was opened with set %04X as the old table had it, and keeps\n", open->id.value);
+    printf("    that FAKey up to its end.\n");
 }
 
 static void show_final(const bench *b)
@@ -255,12 +284,31 @@ static void show_tries(const char *before, const plaid_card *card, const char *b
     printf("%scontact %u, contactless %u%s\n", before, tries.contact, tries.contactless, behind);
 }
 
-/* A session that yields the record, in full. The card counts nothing. */
+/* A session that yielded the record. The card has counted nothing. */
+static bool is_good(const bench *b, const example_mode *mode)
+{
+    return b->number == PLAID_DONE && record_is(b, mode) && door_comes_back(b)
+        && b->final.command_len == PLAID_FINAL_COMMAND_LEAST(b->card.key_length) && tries_are(&b->card, 0, 0);
+}
+
+static void show_session(const bench *b)
+{
+    printf("    interface   %s: the card's platform says %zu in each call\n", interface_name(b->interface), b->interface);
+    show_initial(b);
+    show_opened(b);
+    if (b->fault.between)
+        show_change(b);
+    show_final(b);
+    show_record(b);
+    show_counts(&b->initial.reply, &b->final.reply);
+    show_tries("    failed tries    ", &b->card, "    not sent");
+}
+
+/* One on new cards, in full. */
 static bool watch_good(bench *b, size_t interface, size_t key_length, const example_mode *mode)
 {
     static const bench_fault none;
-    if (!bench_run(b, interface, key_length, mode, none) || b->number != PLAID_DONE || !record_is(b, mode) || !door_comes_back(b)
-        || b->final.command_len != PLAID_FINAL_COMMAND_LEAST(key_length) || !tries_are(&b->card, 0, 0))
+    if (!bench_run(b, interface, key_length, mode, none) || !is_good(b, mode))
         return false;
     if (key_length == EXAMPLE_KEY_LENGTH) {
         printf("\nSESSION FOR MODE %04X: %s, %zu bytes\n", mode->id.value, mode->name, mode->record_length);
@@ -269,13 +317,7 @@ static bool watch_good(bench *b, size_t interface, size_t key_length, const exam
         printf("    Both ends have L = %zu: a rule of this house, that no other maker's end has.\n", key_length);
         printf("    The diversified key is made of two enciphered blocks and not of one.\n");
     }
-    printf("    interface   %s: the card's platform says %zu in each call\n", interface_name(interface), interface);
-    show_initial(b);
-    show_opened(b);
-    show_final(b);
-    show_record(b);
-    show_counts(&b->initial.reply, &b->final.reply);
-    show_tries("    failed tries    ", &b->card, "    not sent");
+    show_session(b);
     return true;
 }
 
@@ -371,13 +413,19 @@ static void show_refused(const bench *b, const refusal *of)
     explain_final(b, of->cause);
 }
 
-/* Runs it for the L of a good session. The card counts its own refusal, for the interface of the session alone. */
+/* The card counts its own refusal, its first, for the interface of the session alone. */
+static bool is_refused(const bench *b, const bench *good, const refusal *of)
+{
+    bool air = b->interface == PLAID_INTERFACE_CONTACTLESS;
+    return b->number == of->number && b->final.as_other_card == of->card_refuses && !b->card.session.opened
+        && b->session.record.length == 0 && alike_on_the_line(b, good)
+        && tries_are(&b->card, of->card_refuses && !air, of->card_refuses && air);
+}
+
+/* Runs it for the L of a good session. */
 static bool refused_over(bench *b, size_t interface, const bench *good, const refusal *of)
 {
-    bool air = interface == PLAID_INTERFACE_CONTACTLESS;
-    return bench_run(b, interface, good->card.key_length, &example_wiegand, of->fault) && b->number == of->number
-        && b->final.as_other_card == of->card_refuses && !b->card.session.opened && b->session.record.length == 0
-        && alike_on_the_line(b, good) && tries_are(&b->card, of->card_refuses && !air, of->card_refuses && air);
+    return bench_run(b, interface, good->card.key_length, &example_wiegand, of->fault) && is_refused(b, good, of);
 }
 
 /* On both interfaces; shows the one through the air, where L is the examples'. */
@@ -411,6 +459,135 @@ static bool watch_all_refused(const bench *good)
     if (good->card.key_length != EXAMPLE_KEY_LENGTH)
         printf("\nREFUSED WITH KEYS OF %zu BYTES: the same %zu sessions, with the same numbers\n", good->card.key_length, REFUSALS);
     return true;
+}
+
+/* The key change of the examples: the session's set gets another FAKey, another set goes, and one comes. */
+static void load_new_sets(bench *b, const void *told)
+{
+    plaid_key_set sets[EXAMPLE_NEW_SETS];
+    (void)told;
+    example_new_sets(b->card.key_length, sets);
+    bench_load_sets(b, sets, EXAMPLE_NEW_SETS);
+    platform_erase(sets, sizeof sets);
+}
+
+/* The table was changed, and the open session was not. */
+static bool key_was_changed(const bench *b)
+{
+    const plaid_session *open = &b->behind.session;
+    const uint8_t *old = key_in_table(&b->before, open->id), *new = key_in_table(&b->behind, open->id);
+    return b->loaded == PLAID_DONE && open->opened && old && memcmp(open->fa_key, old, PLAID_VALUE_MOST) == 0
+        && new && memcmp(open->fa_key, new, PLAID_VALUE_MOST) != 0 && !key_in_table(&b->behind, (plaid_key_set_id){0x0203});
+}
+
+/* A load makes no steps: the card's work is that of a session without one. */
+static bool same_work(const plaid_answer *a, const plaid_answer *b)
+{
+    return a->comparisons == b->comparisons && a->decipherments == b->decipherments && a->encipherments == b->encipherments
+        && a->expansions == b->expansions && a->hash_blocks == b->hash_blocks;
+}
+
+/* A session that the key change falls into: it ends under the old key. */
+static bool watch_change(bench *b, const bench *good)
+{
+    static const bench_fault change = {.between = load_new_sets};
+    const example_mode *mode = &example_wiegand;
+    if (!bench_run(b, PLAID_INTERFACE_CONTACT, EXAMPLE_KEY_LENGTH, mode, change) || !is_good(b, mode) || !key_was_changed(b)
+        || !alike_on_the_line(b, good) || !same_work(&b->final.reply.told, &good->final.reply.told))
+        return false;
+    printf("\nSESSION WITH A KEY CHANGE IN IT: mode %04X\n", mode->id.value);
+    show_session(b);
+    return true;
+}
+
+/* The next ones of that card: the new key yields the record, and the old key does not. */
+static bool watch_behind_change(bench *b, const bench *good)
+{
+    static const bench_fault new_key = {.new_key = true};
+    static const refusal old_key = {"the old key, behind the key change", {0}, "Seal, under the old FAKey of set 0102", true, 20};
+    const example_mode *mode = &example_wiegand;
+    if (!bench_run_again(b, PLAID_INTERFACE_CONTACTLESS, mode, new_key) || !is_good(b, mode) || !alike_on_the_line(b, good))
+        return false;
+    printf("\nSESSION BEHIND THE KEY CHANGE: mode %04X, the same card\n", mode->id.value);
+    show_field("FAKey", b->session.sealing.fa_key.bytes, b->plan.key_length, "of the reader");
+    show_session(b);
+    if (!bench_run_again(b, PLAID_INTERFACE_CONTACTLESS, mode, old_key.fault) || !is_refused(b, good, &old_key))
+        return false;
+    show_refused(b, &old_key);
+    return true;
+}
+
+/* Key sets for that card: so many, with faults in the first of them; and the number that the load has to have. */
+typedef struct {
+    const char *title;
+    size_t count;
+    bool short_key, twice, shill;
+    int number;
+} key_load;
+
+static const key_load key_loads[] = {
+    {"none", 0, false, false, false, PLAID_DECLINE_KEY_SET_COUNT},
+    {"nine", 9, true, true, true, PLAID_DECLINE_KEY_SET_COUNT},
+    {"a FAKey of a byte too few", 2, true, true, true, PLAID_DECLINE_VALUE_LENGTH},
+    {"one KeySetID twice", 2, false, true, true, PLAID_DECLINE_KEY_SET_REPEATED},
+    {"one with the shill handle", 2, false, false, true, PLAID_DECLINE_SHILL_HANDLE},
+    {"0204 alone, so that 0102 goes", 1, false, false, false, PLAID_DONE},
+};
+
+static void load_as_told(bench *b, const void *told)
+{
+    const key_load *of = told;
+    plaid_key_set sets[PLAID_CARD_KEY_SETS + 1];
+    memset(sets, 0, sizeof sets);
+    example_new_sets(b->card.key_length, sets);
+    sets[0].fa_key.length -= of->short_key;
+    if (of->twice)
+        sets[0].id = sets[1].id;
+    if (of->shill)
+        sets[0].handle = b->card.shill_handle;
+    bench_load_sets(b, sets, of->count);
+    platform_erase(sets, sizeof sets);
+}
+
+/* A session that ends by this number, with the new key: 0 with the record. */
+static bool ends_by(bench *b, const bench *good, int number, bench_fault fault)
+{
+    fault.new_key = true;
+    return bench_run_again(b, PLAID_INTERFACE_CONTACT, &example_wiegand, fault) && b->number == number
+        && (number != PLAID_DONE || record_is(b, &example_wiegand)) && alike_on_the_line(b, good);
+}
+
+/* A load falls into a session, which yields the record. So does the next one, unless its set was dropped. */
+static bool watch_load(bench *b, const bench *good, const key_load *of)
+{
+    const bench_fault load = {.between = load_as_told, .told = of}, none = {0};
+    bool dropped = of->number == PLAID_DONE;
+    if (!ends_by(b, good, PLAID_DONE, load) || b->loaded != of->number
+        || !ends_by(b, good, dropped ? PLAID_DECLINE_NONE_OPENS : PLAID_DONE, none))
+        return false;
+    printf("    %-29s  number %-8d  %-11s  %s\n", of->title, b->loaded, "record", dropped ? "number 15" : "record");
+    return true;
+}
+
+static bool watch_loads(bench *b, const bench *good)
+{
+    bool ok = true;
+    printf("\nKEY SETS LOADED ONTO THAT CARD, each time between the commands of a session\n");
+    printf("    %-29s  %-15s  %-11s  %s\n", "key sets", "plaid_load_sets", "the session", "the next one");
+    for (size_t i = 0; ok && i < sizeof key_loads / sizeof key_loads[0]; i++)
+        ok = watch_load(b, good, &key_loads[i]);
+    if (ok)
+        printf("    A load that is declined keeps the table. The session keeps its FAKey in\n"
+               "    any case; what is dropped is missing from the next one on.\n");
+    return ok;
+}
+
+static bool watch_key_change(const bench *good)
+{
+    static bench b;
+    bool ok = watch_change(&b, good) && watch_behind_change(&b, good) && watch_loads(&b, good);
+    bench_forget(&b);
+    return ok;
 }
 
 /* One session of a card that goes on from those before it, and what it has counted then. */
@@ -564,7 +741,8 @@ static bool watch_all(bench good[3])
     bool ok = watch_good(&good[0], PLAID_INTERFACE_CONTACT, 16, &example_wiegand)
         && watch_good(&second, PLAID_INTERFACE_CONTACTLESS, 16, &example_uuid) && alike_on_the_line(&second, &good[0]);
     bench_forget(&second);
-    ok = ok && watch_other_list(&good[0]) && watch_longer(&good[1], 24, &good[0]) && watch_longer(&good[2], 32, &good[0]);
+    ok = ok && watch_other_list(&good[0]) && watch_longer(&good[1], 24, &good[0]) && watch_longer(&good[2], 32, &good[0])
+        && watch_key_change(&good[0]);
     for (size_t i = 0; ok && i < 3; i++)
         ok = watch_all_refused(&good[i]);
     return ok && watch_tries(&good[0]) && watch_declined(&good[0]) && watch_door_records(&good[0]) && watch_door_declined();
@@ -587,7 +765,7 @@ int main(int argc, char **argv)
     if (ok)
         printf("\nOn the line all sessions with keys of 16 bytes were alike, the other list's\n"
                "length apart: messages of %zu, %zu, %zu and %zu bytes, status 9000. With keys of 24\n"
-               "and 32 bytes the final command had %zu and %zu. Seven sessions gave a record.\n",
+               "and 32 bytes the final command had %zu and %zu. Twenty sessions gave a record.\n",
             good[0].initial.command_len, good[0].initial.answer_len, good[0].final.command_len, good[0].final.answer_len,
             good[1].final.command_len, good[2].final.command_len);
     else

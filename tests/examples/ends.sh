@@ -14,8 +14,10 @@ session() {
     env "${reader_env[@]}" timeout 60 "$ex/reader" "${reader_flag[@]}" "$2" "$1" ${3:+"$3"} >"$room/up" <"$room/down" 2>"$room/told"
     local status=$?
     wait
-    echo "$(grep -v STAND-IN "$room/told" | paste -sd ';'), exit $status"
+    told $status
 }
+# told STATUS: what the reader said, but for the stand-in's name, and its exit status
+told() { echo "$(grep -v STAND-IN "$room/told" | paste -sd ';'), exit $1"; }
 
 # The Wiegand number of mode 0007 and the UUID of mode 0008, as records and in the door system's form; what a reader tells of each.
 wiegand=002A24CF uuid=F81D4FAE7DEC11D0A76500A0C91E6BF6
@@ -76,8 +78,9 @@ key_lengths() { # NAME KEYS
     card_flag=(-L16) reader_flag=()
     holds "$1: a reader without a flag has L = 16" gives "$record" "$(session "$2" 0007)"
 }
-# The first so many bytes of set 0102's FAKey.
-fa_key() { printf 'FAKey of set 102 of 24, 32 bytes' | head -c "$1" | od -An -v -tx1 | tr -d ' \n'; }
+# The first so many bytes of set 0102's FAKey, or of another.
+old_key='FAKey of set 102 of 24, 32 bytes' new_key='FAKey NEW of 102 of 24, 32 bytes'
+fa_key() { printf %s "${2-$old_key}" | head -c "$1" | od -An -v -tx1 | tr -d ' \n'; }
 # Reader and card differ in how long the record is. 16 bytes stand before DivData for both modes: more is refused, as is 0. What another
 # maker's reader takes for mode 0007, all that stands there, is the Wiegand number and the filler. By its length the reader takes a record
 # for a door number: those 16 bytes for a UUID, and the first 4 of the UUID for a Wiegand number, which they are not.
@@ -98,7 +101,7 @@ lengths() { # NAME KEYS
 
 # card LINE..: the card's answers and exit status, on one line; what it complains of goes to a file
 card() {
-    { printf '%s\n' "$@" | env "${card_env[@]}" "$ex/card" ${keys:+"$keys"} 2>"$room/complaints"; echo "exit $?"; } | paste -sd ' '
+    { printf '%s\n' "$@" | env "${card_env[@]}" "$ex/card" "${card_flag[@]}" ${keys:+"$keys"} 2>"$room/complaints"; echo "exit $?"; } | paste -sd ' '
 }
 keys=
 complains() { gives "$1" "$(grep -v 'STAND-IN\|failed tries' "$room/complaints")"; }
@@ -144,6 +147,113 @@ card_counts() {
     holds "card: contact where no flag is given" tried '' 2 0 "$final" "$final"
 }
 
+# A card that serves readers one behind the other, and finds key sets that are left for it: start_card KEYS, next_session KEYS MODE [FAKEY]
+# and so on, end_card. leaving: a session between whose two commands the key sets come that keys_for made.
+start_card() {
+    rm -f "$room/up" "$room/down" "$room/sets"
+    mkfifo "$room/up" "$room/down"
+    env "${card_env[@]}" timeout 60 "$ex/card" -sets "$room/sets" "${card_flag[@]}" ${1:+"$1"} <"$room/up" >"$room/down" 2>"$room/card-told" &
+    exec 3>"$room/up" 4<"$room/down"
+}
+end_card() {
+    exec 3>&- 4<&-
+    wait
+}
+next_session() {
+    env "${reader_env[@]}" timeout 60 "$ex/reader" "${reader_flag[@]}" "$2" "$1" ${3:+"$3"} >&3 <&"${answers-4}" 2>"$room/told"
+    told $?
+}
+leaving() {
+    local answers
+    exec {answers}< <(leave_behind_first <&4 3>&-)
+    next_session "$@"
+    exec {answers}<&-
+}
+leave_behind_first() {
+    local answer
+    read -r answer
+    mv "$room/new" "$room/sets"
+    echo "$answer"
+    read -r answer
+    echo "$answer"
+}
+# keys_for L SET..: a file of key sets; each is KeySetID and handle in digits, and the text of its FAKey
+keys_for() {
+    local set
+    for set in "${@:2}"; do echo "${set:0:6}$(fa_key "$1" "${set:6}")"; done >"$room/new"
+}
+set_204='020412FAKey of set 204 of 24, 32 bytes' new_102=010211$new_key
+
+# A key change into a session: it ends under its old key, and the next one is under the new table. Then the set is dropped.
+key_changes() { # NAME KEYS
+    local l card_flag reader_flag new
+    for l in 16 24 32; do
+        local name="$1, L = $l, key change"
+        card_flag=(-L$l) reader_flag=(-L$l) new=$(fa_key $l "$new_key")
+        start_card "$2"
+        holds "$name: a session before it" gives "$record" "$(next_session "$2" 0007)"
+        keys_for $l "$set_204" "$new_102"
+        holds "$name: in a session, which ends under the old key" gives "$record" "$(leaving "$2" 0007)"
+        holds "$name: the file is taken" [ ! -e "$room/sets" -a ! -e "$room/new" ]
+        holds "$name: the next session, new key" gives "$uuid_record" "$(next_session "$2" 0008 "$new")"
+        holds "$name: the next session, old key" gives "reader: no record, number 20, exit 1" "$(next_session "$2" 0007)"
+        keys_for $l "$set_204"
+        holds "$name: the set is dropped in a session" gives "$record" "$(leaving "$2" 0007 "$new")"
+        holds "$name: the next session has no set in common" gives "reader: no record, number 15, exit 1" "$(next_session "$2" 0007 "$new")"
+        end_card
+        holds "$name: the card says so" loads_are "before line 4: key sets loaded, 2" "before line 10: key sets loaded, 1"
+        holds "$name: the old key was counted" tries 1 0
+    done
+    kept_tables "$1" "$2"
+}
+loads_are() { gives "$(printf 'card: %s\n' "$@")" "$(grep 'key sets' "$room/card-told")"; }
+# A load that is not taken, in a session: that one and the next are as before.
+kept_tables() { # NAME KEYS
+    local said='key sets declined by 3' handle=1F card_flag=() reader_flag=()
+    if [ -n "$2" ]; then said="key sets not loaded, $2/77-public.pem: missing, or no key in it" handle=77; fi
+    keys_for 16 "$new_102" "0204$handle$new_key"
+    start_card "$2"
+    holds "$1, key sets not taken: in a session" gives "$record" "$(leaving "$2" 0007)"
+    holds "$1, key sets not taken: the next session" gives "$record" "$(next_session "$2" 0007)"
+    end_card
+    holds "$1, key sets not taken: the card says so" loads_are "before line 2: $said"
+}
+
+# What a card with L = 16 makes of a file of key sets, from none on: the library's numbers in their order, and lines that are no key set.
+key_files() {
+    local nine=() i
+    for i in 1 2 3 4 5 6 7 8 9; do nine+=("0${i}0011$new_key"); done
+    file_is "one" "loaded, 1" keys_for 16 "$new_102"
+    file_is "eight" "loaded, 8" keys_for 16 "${nine[@]:1}"
+    file_is "lines that end by two characters, the last by none" "loaded, 2" written "010211$(fa_key 16)\r\n020411$(fa_key 16)"
+    file_is "none" "declined by 1" written ""
+    file_is "nine" "declined by 1" keys_for 15 "${nine[@]}" "$new_102"
+    file_is "a hundred" "declined by 1" keys_for 16 $(seq -f '%04g11FAKey' 100)
+    file_is "a FAKey of 15 bytes" "declined by 22" keys_for 15 "01021F$new_key" "01021F$new_key"
+    file_is "a FAKey of 24 bytes" "declined by 22" keys_for 24 "$new_102"
+    file_is "no FAKey" "declined by 22" written "010211\n"
+    file_is "a FAKey of 272 bytes" "declined by 22" written "010211$(zeros 544)\n"
+    file_is "a KeySetID twice" "declined by 2" keys_for 16 "01021F$new_key" "$set_204" "$new_102"
+    file_is "the shill handle" "declined by 3" keys_for 16 "$set_204" "01021F$new_key"
+    for i in zz 01021 0102 "" "010211$(fa_key 16) "; do
+        file_is "a line '$i'" "not loaded, a line of the file is none" written "010211$(fa_key 16)\n$i\n"
+    done
+    local card_flag=(-sets "$room/none")
+    holds "key sets: no file" gives "6E00 exit 0" "$(card 80870000)"
+    holds "key sets: no file, nothing said" complains ""
+}
+written() { printf %b "$1" >"$room/new"; }
+# file_is LABEL WORDS COMMAND..: what the card says of the file that the command makes
+file_is() {
+    local card_flag=(-sets "$room/sets") status=1
+    "${@:3}"
+    mv "$room/new" "$room/sets"
+    case $2 in loaded*) status=0 ;; esac
+    holds "key sets, $1: the card goes on" gives "6E00 6D00 exit $status" "$(card 80870000 00880000)"
+    holds "key sets, $1: $2" complains "card: before line 1: key sets $2"
+    holds "key sets, $1: the file is taken" [ ! -e "$room/sets" ]
+}
+
 # usage PROGRAM ARGUMENT..: says how it is called, and ends with 2
 usage() {
     "$@" </dev/null 2>"$room/complaints" >"$room/out"
@@ -156,6 +266,11 @@ usages() {
     holds "usage: card, an interface that is none" usage "$ex/card" -air
     holds "usage: card, an interface by number" usage "$ex/card" -1
     holds "usage: card, the interface behind the key length" usage "$ex/card" -L16 -contactless
+    holds "usage: card, no file of key sets" usage "$ex/card" -sets
+    holds "usage: card, a file of key sets without a name" usage "$ex/card" -sets ''
+    holds "usage: card, a flag for a file of key sets" usage "$ex/card" -sets -L16
+    holds "usage: card, the key sets behind the key length" usage "$ex/card" -L16 -sets file
+    holds "usage: card, the key sets before the interface" usage "$ex/card" -sets file -contact
     holds "usage: reader" usage "$ex/reader"
     holds "usage: reader --help" usage "$ex/reader" --help
     holds "usage: reader, a mode of three digits" usage "$ex/reader" 007
@@ -186,8 +301,7 @@ key_length_usages() { # PROGRAM ARGUMENT..
 # answered TEXT: what the reader makes of a card that says this, whatever it is asked
 answered() {
     printf '%b' "$1" | timeout 60 "$ex/reader" 0007 2>"$room/told" >/dev/null
-    local status=$?
-    echo "$(grep -v STAND-IN "$room/told" | paste -sd ';'), exit $status"
+    told $?
 }
 # changed SCRIPT: a session in which sed changes the card's answers
 changed() {
@@ -264,7 +378,10 @@ told_erased() { gives "$(printf '%s\n' "${@:2}")" "$(LC_ALL=C sort -u "$room/$1-
 # The secrets that stood in what each end erased, and that nothing is left of them: the initial answer's block where RSA failed, too.
 erased() { # KEYS
     local l
-    for l in 16 24 32; do erased_of "$1" "$l"; done
+    for l in 16 24 32; do
+        erased_of "$1" "$l"
+        erased_change "$1" "$l"
+    done
 }
 erased_of() { # KEYS L
     local card_env=(ERASED="$room/card-erased" KEY_LENGTH="$2") reader_env=(ERASED="$room/reader-erased" KEY_LENGTH="$2") ex=$room/seams
@@ -290,6 +407,21 @@ erased_of() { # KEYS L
     card_env=(ERASED="$room/card-erased" KEY_LENGTH="$2" FAULT=public:1)
     session "$1" 0007 >"$room/out"
     holds "$name: the block that was not encrypted" grep -qx 'answer RND1' "$room/card-erased"
+}
+
+# A key change in a session: what the file's keys went through, and the card's next value. At the end the card has the new key alone.
+erased_change() { # KEYS L
+    local card_env=(ERASED="$room/card-erased" KEY_LENGTH="$2") ex=$room/seams
+    local card_flag=(-L"$2") reader_flag=(-L"$2") name="erased, L = $2, key change"
+    rm -f "$room"/*-erased
+    keys_for "$2" "$set_204" "$new_102"
+    start_card "$1"
+    holds "$name: a session" gives "$record" "$(leaving "$1" 0007)"
+    end_card
+    holds "$name: by the card" told_erased card "card UUID" "card Wiegand" "card new-FAKey" "card shill-key" "file new-FAKey-text" \
+        "file-line new-FAKey" "file-sets new-FAKey" "fresh RND1" "given shill-key" "loaded FAKey" "loaded RND1" "loaded UUID" "loaded Wiegand" \
+        "loaded new-FAKey" "loaded shill-key" "outcome FAKey" "outcome RND1" "outcome UUID" "outcome Wiegand" "outcome new-FAKey" \
+        "outcome shill-key" "sets FAKey"
 }
 
 # The reader's private key of set 0102 is another one.

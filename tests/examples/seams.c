@@ -10,6 +10,7 @@
 #include "card_end.h"
 #include "door.h"
 #include "example.h"
+#include "key_file.h"
 #include "reader_end.h"
 
 #include <stdio.h>
@@ -25,14 +26,18 @@ static struct {
     {"FAKey", "FAKey of set 102 of 24, 32 bytes", 0}, {"shill-key", "the shill key 16 of 24, 32 bytes", 0}, {"Wiegand", {0x00, 0x2A, 0x24, 0xCF}, 4},
     {"UUID", {0xF8, 0x1D, 0x4F, 0xAE, 0x7D, 0xEC, 0x11, 0xD0, 0xA7, 0x65, 0x00, 0xA0, 0xC9, 0x1E, 0x6B, 0xF6}, 16},
     {"Wiegand-text", "00001010100010010011001111", 26}, {"UUID-text", "f81d4fae-7dec-11d0-a765-00a0c91e6bf6", 36},
+    {"new-FAKey", "FAKey NEW of 102 of 24, 32 bytes", 0},
+    {"new-FAKey-text", "46414b6579204e4557206f6620313032206f662032342c203332206279746573", 0},
 };
-static size_t known = 6;
+static size_t known = 8;
 
-/* L, by which the two keys are cut to their length too. */
+/* L, by which the keys are cut to their length too, and the digits of one. */
 static size_t key_length(void)
 {
     const char *given = getenv("KEY_LENGTH");
-    return secrets[0].len = secrets[1].len = given ? strtoul(given, NULL, 10) : 16;
+    size_t l = given ? strtoul(given, NULL, 10) : 16;
+    secrets[7].len = 2 * l;
+    return secrets[0].len = secrets[1].len = secrets[6].len = l;
 }
 
 static void learn(const char *name, const uint8_t *bytes, size_t len)
@@ -108,7 +113,8 @@ static const char *object(const void *at, size_t size)
     } objects[] = {
         {sizeof(plaid_given), "given"}, {sizeof(plaid_loaded), "loaded"}, {sizeof(plaid_card), "card"}, {sizeof(plaid_outcome), "outcome"},
         {PLAID_FRESH, "fresh"}, {CARD_ANSWER_MOST, "answer"}, {PLAID_LIST_IDS * PLAID_BLOCK, "blocks"}, {sizeof(plaid_accepting), "accepting"},
-        {sizeof(reader_session), "session"}, {DOOR_TEXT, "text"},
+        {sizeof(reader_session), "session"}, {DOOR_TEXT, "text"}, {BUFSIZ, "file"}, {3 + PLAID_VALUE_MOST, "file-line"},
+        {KEY_FILE_SETS * sizeof(plaid_key_set), "file-sets"},
     };
     plaid_key_set first = {{0}, 0, {0, {0}}};
     if (size == 2 * sizeof first)

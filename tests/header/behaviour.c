@@ -148,6 +148,7 @@ static size_t extent(const result *r)
 
 /* A result of more than 16 bytes goes where the first argument points, which the function also returns (System V ABI, x86-64). */
 typedef void *raw_load(void *, const plaid_key_set *, size_t, plaid_given, const uint8_t *, size_t);
+typedef void *raw_load_sets(void *, const plaid_key_set *, size_t, plaid_card);
 typedef void *raw_command(void *, plaid_card, size_t, const uint8_t *, size_t, const uint8_t *, size_t, uint8_t *, size_t);
 typedef uint32_t raw_read_tries(plaid_card); /* four bytes come in one register */
 typedef void *raw_open(void *, size_t, plaid_ids, const uint8_t *, size_t);
@@ -164,6 +165,7 @@ typedef registers raw_convert(const uint8_t *, size_t, uint8_t *, size_t);
 /* volatile, or a compiler sees the other type and makes no call. */
 #define AS(type, function) ((type *)(void (*)(void))(function))
 static raw_load *volatile load_at = AS(raw_load, plaid_load);
+static raw_load_sets *volatile load_sets_at = AS(raw_load_sets, plaid_load_sets);
 static raw_command *volatile command_at = AS(raw_command, plaid_command);
 static raw_read_tries *volatile tries_word = AS(raw_read_tries, plaid_read_tries);
 static raw_open *volatile open_at = AS(raw_open, plaid_open);
@@ -184,16 +186,23 @@ typedef struct {
     size_t area_len;
 } load_case;
 
+static plaid_key_set marked_set(unsigned id, unsigned handle, unsigned field)
+{
+    plaid_key_set set;
+    memset(&set, 0, sizeof set);
+    set.id.value = (uint16_t)id;
+    set.handle = (uint8_t)handle;
+    set.fa_key = marked_value(field);
+    return set;
+}
+
 /* Every slot filled, every value its own: records of 48 to 63 bytes, which all have B = 5. */
 static load_case full_load(void)
 {
     load_case c;
     memset(&c, 0, sizeof c);
-    for (unsigned i = 0; i < LENGTH(c.sets); i++) {
-        c.sets[i].id.value = (uint16_t)(0x0102 + 0x1111 * i);
-        c.sets[i].handle = (uint8_t)(0x21 + i);
-        c.sets[i].fa_key = marked_value(i);
-    }
+    for (unsigned i = 0; i < LENGTH(c.sets); i++)
+        c.sets[i] = marked_set(0x0102 + 0x1111 * i, 0x21 + i, i);
     for (unsigned i = 0; i < LENGTH(c.given.modes); i++) {
         c.given.modes[i].id.value = (uint16_t)(0xF00D - 0x0E0F * i);
         c.given.modes[i].start = 1 + 61 * i;
@@ -226,6 +235,32 @@ static bool set_slot_is(const plaid_key_set_slot *slot, const plaid_key_set *set
         && held_is(slot->fa_key, set->fa_key.bytes);
 }
 
+/* An empty slot, and no session: every field is 0. */
+static bool no_set(const plaid_key_set_slot *slot)
+{
+    return !slot->held && slot->id.value == 0 && slot->handle == 0 && all(slot->fa_key, PLAID_VALUE_MOST, 0);
+}
+
+static bool no_session(const plaid_session *s)
+{
+    return !s->opened && s->id.value == 0 && all(s->rnd1, PLAID_VALUE_MOST, 0) && all(s->fa_key, PLAID_VALUE_MOST, 0);
+}
+
+/* An open session: of this key set, with the FAKey that it has here and the RND1 of this run. */
+static bool session_of(const plaid_session *s, const plaid_key_set *set)
+{
+    return s->opened && s->id.value == set->id.value && held_is(s->rnd1, rnd1) && held_is(s->fa_key, set->fa_key.bytes);
+}
+
+/* So many key sets from the first slot on, and no others. */
+static bool table_is(const plaid_card *card, const plaid_key_set *sets, size_t count)
+{
+    for (size_t i = 0; i < PLAID_CARD_KEY_SETS; i++)
+        if (!(i < count ? set_slot_is(&card->sets[i], &sets[i]) : no_set(&card->sets[i])))
+            return false;
+    return true;
+}
+
 static bool mode_slot_is(const plaid_mode_slot *slot, const plaid_mode *mode)
 {
     return slot->held && slot->id.value == mode->id.value && slot->start == mode->start && slot->len == mode->len;
@@ -234,8 +269,7 @@ static bool mode_slot_is(const plaid_mode_slot *slot, const plaid_mode *mode)
 /* What a load gave stands in the card; the session is looked at elsewhere. */
 static void check_card(const plaid_card *card, const load_case *c)
 {
-    for (size_t i = 0; i < PLAID_CARD_KEY_SETS; i++)
-        CHECK(i < c->set_count ? set_slot_is(&card->sets[i], &c->sets[i]) : !card->sets[i].held);
+    CHECK(table_is(card, c->sets, c->set_count));
     for (size_t i = 0; i < PLAID_CARD_MODES; i++)
         CHECK(i < c->given.mode_count ? mode_slot_is(&card->modes[i], &c->given.modes[i]) : !card->modes[i].held);
     CHECK(memcmp(card->area, c->area, c->area_len) == 0);
@@ -257,8 +291,7 @@ static void check_loaded(const load_case *c)
         memcpy(&loaded, r.bytes[i], sizeof loaded);
         CHECK(loaded.number == PLAID_DONE);
         check_card(&loaded.card, c);
-        CHECK(!loaded.card.session.opened && loaded.card.session.id.value == 0);
-        CHECK(all(loaded.card.session.rnd1, PLAID_VALUE_MOST, 0));
+        CHECK(no_session(&loaded.card.session));
         CHECK(loaded.card.tries.contact == 0 && loaded.card.tries.contactless == 0);
     }
     CHECK_SIZE(&r, plaid_loaded, card.tries);
@@ -314,17 +347,12 @@ static void load_order(void)
 /* No card results: nothing of what was given stands in it. */
 static bool no_card(const plaid_card *card)
 {
-    for (size_t i = 0; i < PLAID_CARD_KEY_SETS; i++)
-        if (card->sets[i].held || card->sets[i].id.value != 0 || card->sets[i].handle != 0
-            || !all(card->sets[i].fa_key, PLAID_VALUE_MOST, 0))
-            return false;
     for (size_t i = 0; i < PLAID_CARD_MODES; i++)
         if (card->modes[i].held || card->modes[i].id.value != 0 || card->modes[i].start != 0 || card->modes[i].len != 0)
             return false;
-    return all(card->area, PLAID_CARD_AREA, 0) && all(card->div_data, PLAID_DIV_DATA, 0) && all(card->shill_key, PLAID_VALUE_MOST, 0)
-        && card->shill_handle == 0 && card->key_length == 0 && card->reply_size == 0 && !card->session.opened
-        && card->session.id.value == 0 && all(card->session.rnd1, PLAID_VALUE_MOST, 0) && card->tries.contact == 0
-        && card->tries.contactless == 0;
+    return table_is(card, NULL, 0) && all(card->area, PLAID_CARD_AREA, 0) && all(card->div_data, PLAID_DIV_DATA, 0)
+        && all(card->shill_key, PLAID_VALUE_MOST, 0) && card->shill_handle == 0 && card->key_length == 0 && card->reply_size == 0
+        && no_session(&card->session) && card->tries.contact == 0 && card->tries.contactless == 0;
 }
 
 static void check_no_card(const load_case *c, unsigned number)
@@ -553,8 +581,7 @@ static void initial_accepted(void)
         CHECK(o[i].answer.handle == l.sets[5].handle);
         CHECK(o[i].sum == sum_of_place(&l, id.value));
         check_card(&o[i].card, &l);
-        CHECK(o[i].card.session.opened && o[i].card.session.id.value == id.value);
-        CHECK(held_is(o[i].card.session.rnd1, rnd1));
+        CHECK(session_of(&o[i].card.session, &l.sets[5]));
     }
     check_block(c.out, &l, c.fresh, id.value);
     CHECK(all(c.out + PLAID_ANSWER_INITIAL, sizeof c.out - PLAID_ANSWER_INITIAL, CANARY));
@@ -567,7 +594,7 @@ static void initial_refused(void)
     call_case c = initial_call(unknown);
     plaid_outcome o = call(load(&l).card, &c);
     CHECK(o.answer.number == PLAID_DONE && o.answer.status == PLAID_ANSWER_OK && o.answer.length == PLAID_ANSWER_INITIAL);
-    CHECK(o.answer.handle == l.given.shill_handle && !o.card.session.opened);
+    CHECK(o.answer.handle == l.given.shill_handle && no_session(&o.card.session));
     CHECK(memcmp(c.out + 3 + PLAID_FRESH_PADS(key_length), c.fresh, PLAID_FRESH_ANY(key_length)) == 0);
 }
 
@@ -585,7 +612,7 @@ static void check_form(const char *name, const uint8_t *data, size_t count, bool
     check(a->number == PLAID_DONE && a->status == PLAID_ANSWER_OK && a->length == PLAID_ANSWER_INITIAL, name, __LINE__);
     check(counts_are(a, 8 * (count / 4), 0, 0, 0, 0), name, __LINE__);
     check(a->handle == (taken ? l.sets[5].handle : l.given.shill_handle), name, __LINE__);
-    check(o.card.session.opened == taken && o.card.session.id.value == (taken ? l.sets[5].id.value : 0), name, __LINE__);
+    check(taken ? session_of(&o.card.session, &l.sets[5]) : no_session(&o.card.session), name, __LINE__);
     if (taken)
         check_block(c.out, &l, c.fresh, l.sets[5].id.value);
     else
@@ -704,10 +731,10 @@ static void list_lengths(void)
     }
 }
 
-static bool same_session(const plaid_card *a, const plaid_card *b)
+static bool same_session(const plaid_session *a, const plaid_session *b)
 {
-    return a->session.opened == b->session.opened && a->session.id.value == b->session.id.value
-        && memcmp(a->session.rnd1, b->session.rnd1, PLAID_VALUE_MOST) == 0;
+    return a->opened == b->opened && a->id.value == b->id.value && memcmp(a->rnd1, b->rnd1, PLAID_VALUE_MOST) == 0
+        && memcmp(a->fa_key, b->fa_key, PLAID_VALUE_MOST) == 0;
 }
 
 static bool same_tries(plaid_tries a, plaid_tries b)
@@ -715,19 +742,35 @@ static bool same_tries(plaid_tries a, plaid_tries b)
     return a.contact == b.contact && a.contactless == b.contactless;
 }
 
-/* Two cards equal field by field, their failed tries apart. */
-static bool same_but_tries(const plaid_card *a, const plaid_card *b)
+static bool same_sets(const plaid_card *a, const plaid_card *b)
 {
-    bool same = same_session(a, b);
+    bool same = true;
     for (size_t i = 0; i < PLAID_CARD_KEY_SETS; i++)
         same = same && a->sets[i].held == b->sets[i].held && a->sets[i].id.value == b->sets[i].id.value
             && a->sets[i].handle == b->sets[i].handle && memcmp(a->sets[i].fa_key, b->sets[i].fa_key, PLAID_VALUE_MOST) == 0;
+    return same;
+}
+
+/* Two cards equal field by field, their key sets and failed tries apart. */
+static bool same_beside(const plaid_card *a, const plaid_card *b)
+{
+    bool same = same_session(&a->session, &b->session);
     for (size_t i = 0; i < PLAID_CARD_MODES; i++)
         same = same && a->modes[i].held == b->modes[i].held && a->modes[i].id.value == b->modes[i].id.value
             && a->modes[i].start == b->modes[i].start && a->modes[i].len == b->modes[i].len;
     return same && memcmp(a->area, b->area, PLAID_CARD_AREA) == 0 && memcmp(a->div_data, b->div_data, PLAID_DIV_DATA) == 0
         && memcmp(a->shill_key, b->shill_key, PLAID_VALUE_MOST) == 0 && a->shill_handle == b->shill_handle
         && a->key_length == b->key_length && a->reply_size == b->reply_size;
+}
+
+static bool same_but_tries(const plaid_card *a, const plaid_card *b)
+{
+    return same_beside(a, b) && same_sets(a, b);
+}
+
+static bool same_but_sets(const plaid_card *a, const plaid_card *b)
+{
+    return same_beside(a, b) && same_tries(a->tries, b->tries);
 }
 
 /* A declined call: number or status, zeros, the card kept with its session and failed tries, nothing written. */
@@ -1157,7 +1200,7 @@ static void session(void)
     size_t record = l.given.modes[3].len;
     CHECK(o.answer.number == PLAID_DONE && o.answer.status == PLAID_ANSWER_OK && o.answer.handle == 0);
     CHECK(final_counts(&o.answer, 5) && o.answer.length == 80 && o.sum != 0);
-    CHECK(!o.card.session.opened && all(o.card.session.rnd1, PLAID_VALUE_MOST, 0));
+    CHECK(no_session(&o.card.session));
     check_card(&o.card, &l);
     CHECK(all(c.out + 80, sizeof c.out - 80, CANARY));
     memset(work, CANARY, sizeof work);
@@ -1395,6 +1438,340 @@ static void tries_read(void)
         }
     l.set_count = 0;
     CHECK(tries_are(load(&l).card, 0, 0));
+}
+
+/*
+ * Key change
+ */
+
+/* A list of key sets for a load onto a card. It may be longer than any that is taken, and than one byte counts. */
+#define SETS_MOST 260
+typedef struct {
+    plaid_key_set sets[SETS_MOST];
+    size_t count;
+} sets_case;
+
+/* Sets of their own: no KeySetID, handle or FAKey of full_load's. */
+static sets_case new_sets(size_t count)
+{
+    sets_case s;
+    memset(&s, 0, sizeof s);
+    for (unsigned i = 0; i < SETS_MOST; i++)
+        s.sets[i] = marked_set(0x0A01 + 3 * i, 0x80 + i % 100, 100 + i);
+    s.count = count;
+    return s;
+}
+
+/* The sets of a card, but for one, which has another FAKey, and it may be another handle. */
+static sets_case other_key(const load_case *l, size_t at, uint8_t handle)
+{
+    sets_case s = new_sets(PLAID_CARD_KEY_SETS);
+    memcpy(s.sets, l->sets, sizeof l->sets);
+    s.sets[at].fa_key = marked_value(90);
+    s.sets[at].handle = handle;
+    return s;
+}
+
+static sets_case without(const load_case *l, size_t at)
+{
+    sets_case s = new_sets(PLAID_CARD_KEY_SETS - 1);
+    memcpy(s.sets, l->sets, sizeof l->sets);
+    memmove(s.sets + at, s.sets + at + 1, (PLAID_CARD_KEY_SETS - 1 - at) * sizeof s.sets[0]);
+    return s;
+}
+
+static plaid_loaded load_sets(const sets_case *s, plaid_card card)
+{
+    return plaid_load_sets(s->sets, s->count, card);
+}
+
+/* The result pointer by hand: taken, the table is the list's; declined, the old one. All else is the card's, whatever the number. */
+static void check_sets(const sets_case *s, plaid_card card, unsigned number)
+{
+    static result r;
+    fill(&r);
+    for (int i = 0; i < 2; i++) {
+        plaid_loaded loaded;
+        CHECK(load_sets_at(r.bytes[i], s->sets, s->count, card) == r.bytes[i]);
+        memcpy(&loaded, r.bytes[i], sizeof loaded);
+        CHECK(loaded.number == number);
+        CHECK(number == PLAID_DONE ? table_is(&loaded.card, s->sets, s->count) : same_sets(&loaded.card, &card));
+        CHECK(same_but_sets(&loaded.card, &card));
+    }
+    CHECK_SIZE(&r, plaid_loaded, card.tries);
+}
+
+/* A card of the first so many sets of full_load, with counts that none else has; in session with its last one, or not. */
+static plaid_card counted_card(size_t sets, bool in_session)
+{
+    load_case l = full_load();
+    l.set_count = sets;
+    call_case c = initial_call(l.sets[sets - 1].id);
+    plaid_card card = load(&l).card;
+    card.tries = (plaid_tries){0x0304, PLAID_TRIES_MOST};
+    return in_session ? call(card, &c).card : card;
+}
+
+/* Every count of sets, onto a card that holds more, as many or fewer. What stands past the count is not looked at. */
+static void sets_taken(void)
+{
+    for (size_t held = 1; held <= PLAID_CARD_KEY_SETS; held++)
+        for (size_t count = 1; count <= PLAID_CARD_KEY_SETS; count++) {
+            sets_case s = new_sets(count);
+            check_sets(&s, counted_card(held, false), PLAID_DONE);
+            s.sets[count] = s.sets[0];
+            s.sets[count].handle = full_load().given.shill_handle;
+            s.sets[count].fa_key.length = 0;
+            check_sets(&s, counted_card(held, true), PLAID_DONE);
+        }
+}
+
+/* Everything wrong at once, and then put right in the order of the numbers; the same of a count that one byte does not hold. */
+static void sets_order(plaid_card card)
+{
+    sets_case right = new_sets(PLAID_CARD_KEY_SETS), s = right;
+    s.sets[6].fa_key.length--;
+    s.sets[1].id = s.sets[0].id;
+    s.sets[7].handle = card.shill_handle;
+    for (s.count = PLAID_CARD_KEY_SETS + 1; s.count <= SETS_MOST; s.count++)
+        CHECK(load_sets(&s, card).number == PLAID_DECLINE_KEY_SET_COUNT);
+    s.count = 0;
+    check_sets(&s, card, PLAID_DECLINE_KEY_SET_COUNT);
+    s.count = SETS_MOST;
+    check_sets(&s, card, PLAID_DECLINE_KEY_SET_COUNT);
+    s.count = PLAID_CARD_KEY_SETS;
+    check_sets(&s, card, PLAID_DECLINE_VALUE_LENGTH);
+    s.sets[6].fa_key = right.sets[6].fa_key;
+    check_sets(&s, card, PLAID_DECLINE_KEY_SET_REPEATED);
+    s.sets[1].id = right.sets[1].id;
+    check_sets(&s, card, PLAID_DECLINE_SHILL_HANDLE);
+    s.sets[7].handle = right.sets[7].handle;
+    check_sets(&s, card, PLAID_DONE);
+}
+
+/* Each set whose FAKey is not of L bytes, has the KeySetID of a later one, or the shill handle. */
+static void sets_faults(plaid_card card)
+{
+    sets_case right = new_sets(PLAID_CARD_KEY_SETS);
+    for (size_t at = 0; at < PLAID_CARD_KEY_SETS; at++) {
+        sets_case s = right;
+        for (size_t i = 0; i < LENGTH(wrong_lengths); i++) {
+            s.sets[at].fa_key.length = (uint8_t)wrong_lengths[i];
+            check_sets(&s, card, wrong_lengths[i] == key_length ? PLAID_DONE : PLAID_DECLINE_VALUE_LENGTH);
+        }
+        for (size_t later = at + 1; later < PLAID_CARD_KEY_SETS; later++) {
+            s = right;
+            s.sets[at].id = s.sets[later].id;
+            check_sets(&s, card, PLAID_DECLINE_KEY_SET_REPEATED);
+        }
+        s = right;
+        s.sets[at].handle = card.shill_handle;
+        check_sets(&s, card, PLAID_DECLINE_SHILL_HANDLE);
+    }
+}
+
+/* A final command for mode 3 under a FAKey: whether the record comes. Where it does not, the card refused, and has counted it. */
+static bool final_yields(plaid_card *card, const load_case *l, plaid_value fa_key)
+{
+    const plaid_mode *m = &l->given.modes[3];
+    plaid_sealing of = sealing_of(l, 3);
+    of.fa_key = fa_key;
+    call_case c = final_call(&of, 0);
+    plaid_outcome o = call(*card, &c);
+    uint8_t work[PLAID_ANSWER_FINAL_MOST];
+    plaid_accepted a = accept(l->given.div_data, m->len, c.out, o.answer.length, work, sizeof work);
+    bool came = a.number == PLAID_DONE;
+    CHECK(no_session(&o.card.session) && same_sets(&o.card, card));
+    CHECK(same_tries(o.card.tries, came ? card->tries : one_more(card->tries, c.interface)));
+    CHECK(!came || (a.length == m->len && memcmp(work, l->area + m->start, m->len) == 0));
+    *card = o.card;
+    return came;
+}
+
+/* The set of a list with this KeySetID, or NULL. */
+static const plaid_key_set *set_of(const plaid_key_set *sets, size_t count, plaid_key_set_id id)
+{
+    for (size_t i = 0; i < count; i++)
+        if (sets[i].id.value == id.value)
+            return &sets[i];
+    return NULL;
+}
+
+/* An initial command for one set, on a card that holds these: its session has that set's FAKey, as the list gives it. */
+static void open_for(plaid_card *card, const plaid_key_set *sets, size_t count, plaid_key_set_id id)
+{
+    const plaid_key_set *held = set_of(sets, count, id);
+    call_case c = initial_call(id);
+    plaid_outcome o = call(*card, &c);
+    CHECK(o.answer.handle == (held ? held->handle : card->shill_handle));
+    CHECK(held ? session_of(&o.card.session, held) : no_session(&o.card.session));
+    *card = o.card;
+}
+
+/* Sessions with each of some readers' sets, on a card that holds these sets: the record comes to those that have the card's FAKey. */
+static void check_sessions(plaid_card *card, const plaid_key_set *sets, size_t count, const plaid_key_set *readers, size_t reader_count)
+{
+    load_case l = full_load();
+    for (size_t i = 0; i < reader_count; i++) {
+        const plaid_key_set *held = set_of(sets, count, readers[i].id);
+        bool same = held && memcmp(held->fa_key.bytes, readers[i].fa_key.bytes, key_length) == 0;
+        open_for(card, sets, count, readers[i].id);
+        CHECK(final_yields(card, &l, readers[i].fa_key) == same);
+    }
+}
+
+/* A load into a session of the sixth set: it ends under the old FAKey, and the next ones are under the table, for old and new readers. */
+static void check_change(const sets_case *s, bool taken)
+{
+    load_case l = full_load();
+    call_case opening = initial_call(l.sets[5].id);
+    const plaid_key_set *table = taken ? s->sets : l.sets;
+    size_t count = taken ? s->count : l.set_count;
+    plaid_card card = load_sets(s, call(load(&l).card, &opening).card).card, again = card;
+    CHECK(table_is(&card, table, count) && session_of(&card.session, &l.sets[5]));
+    CHECK(final_yields(&card, &l, l.sets[5].fa_key));
+    CHECK(!final_yields(&again, &l, marked_value(90)));
+    check_sessions(&card, table, count, l.sets, l.set_count);
+    check_sessions(&card, table, count, table, count);
+}
+
+/*
+ * The session's set with another FAKey; with another handle too; alone, in the first slot; dropped; its KeySetID another set's; nothing of
+ * the old table; the session's FAKey under another KeySetID; and loads that are declined.
+ */
+static void sets_changed(void)
+{
+    load_case l = full_load();
+    sets_case s = other_key(&l, 5, l.sets[5].handle);
+    check_change(&s, true);
+    s = other_key(&l, 5, 0x99);
+    check_change(&s, true);
+    s.sets[0] = s.sets[5];
+    s.count = 1;
+    check_change(&s, true);
+    s = without(&l, 5);
+    check_change(&s, true);
+    s.sets[3].id = l.sets[5].id;
+    check_change(&s, true);
+    s = new_sets(PLAID_CARD_KEY_SETS);
+    check_change(&s, true);
+    s.sets[7].fa_key = l.sets[5].fa_key;
+    check_change(&s, true);
+    s.sets[7].handle = l.given.shill_handle;
+    check_change(&s, false);
+    s.sets[7].id = s.sets[2].id;
+    check_change(&s, false);
+    s.sets[0].fa_key.length++;
+    check_change(&s, false);
+    s.count = 0;
+    check_change(&s, false);
+}
+
+/* Each final command, accepted, refused or declined, behind a load that drops the session's set: as without the load, every byte. */
+static void final_as_before(void)
+{
+    static try_case of[TRIES];
+    load_case l = full_load();
+    sets_case s = without(&l, 5);
+    call_case opening = initial_call(l.sets[5].id);
+    plaid_card fresh_card = load(&l).card, in_session = call(fresh_card, &opening).card;
+    size_t count = all_tries(&l, of), tried = 0;
+    for (size_t i = 0; i < count; i++) {
+        call_case c = of[i].call, behind = c;
+        plaid_card card = of[i].in_session ? in_session : fresh_card, changed = load_sets(&s, card).card;
+        if (c.command[1] != PLAID_INS_FINAL)
+            continue;
+        plaid_outcome o = call(card, &c), p = call(changed, &behind);
+        check(same_answer(&o.answer, &p.answer) && o.sum == p.sum && memcmp(c.out, behind.out, sizeof c.out) == 0, of[i].name, __LINE__);
+        check(same_but_sets(&o.card, &p.card) && same_sets(&p.card, &changed), of[i].name, __LINE__);
+        tried++;
+    }
+    CHECK(tried == 22);
+}
+
+/* A card, and beside it all that the test has to know: the list that was taken last, and the set that the open session began with. */
+typedef struct {
+    plaid_card card;
+    sets_case table;
+    plaid_key_set opened;
+    bool open;
+    unsigned changes, ends[2]; /* loads into a session; final commands without one, and in one */
+} walk;
+
+/* Four KeySetIDs, each with two FAKeys. */
+static sets_case pool_of_sets(void)
+{
+    sets_case pool = new_sets(8);
+    for (size_t i = 4; i < 8; i++)
+        pool.sets[i].id = pool.sets[i - 4].id;
+    return pool;
+}
+
+/* A list of so many, for each KeySetID one FAKey or the other, by a bit. None are declined, and so are five, where the first comes again. */
+static void walk_load(walk *w, const sets_case *pool, size_t count, unsigned bits)
+{
+    sets_case next = *pool;
+    for (size_t i = 0; i < 5; i++)
+        next.sets[i] = pool->sets[i % 4 + 4 * (bits >> i % 4 & 1)];
+    next.count = count;
+    bool taken = count > 0 && count < 5;
+    plaid_loaded loaded = load_sets(&next, w->card);
+    CHECK(loaded.number == (taken ? PLAID_DONE : count == 0 ? PLAID_DECLINE_KEY_SET_COUNT : PLAID_DECLINE_KEY_SET_REPEATED));
+    w->card = loaded.card;
+    w->table = taken ? next : w->table;
+    w->changes += taken && w->open;
+}
+
+static void walk_open(walk *w, plaid_key_set_id id)
+{
+    const plaid_key_set *held = set_of(w->table.sets, w->table.count, id);
+    open_for(&w->card, w->table.sets, w->table.count, id);
+    w->open = held != NULL;
+    w->opened = held ? *held : w->opened;
+}
+
+static void walk_end(walk *w, const load_case *l, plaid_value fa_key)
+{
+    CHECK(final_yields(&w->card, l, fa_key) == (w->open && memcmp(fa_key.bytes, w->opened.fa_key.bytes, key_length) == 0));
+    w->ends[w->open]++;
+    w->open = false;
+}
+
+/* One card through many loads and commands. */
+static void sets_of_a_list(void)
+{
+    static walk w;
+    load_case l = full_load();
+    sets_case pool = pool_of_sets();
+    w = (walk){.card = load(&l).card, .table = new_sets(0), .open = false};
+    walk_load(&w, &pool, 4, 0);
+    unsigned state = 1;
+    for (size_t step = 0; step < 600; step++) {
+        state = 1103515245u * state + 12345u;
+        unsigned pick = state >> 16, kind = pick % 8;
+        const plaid_key_set *set = &pool.sets[pick / 8 % 8];
+        if (kind < 3)
+            walk_load(&w, &pool, pick / 8 % 6, pick / 64);
+        else if (kind < 6)
+            walk_open(&w, set->id);
+        else
+            walk_end(&w, &l, kind == 6 && w.open ? w.opened.fa_key : set->fa_key);
+        CHECK(table_is(&w.card, w.table.sets, w.table.count));
+        CHECK(w.open ? session_of(&w.card.session, &w.opened) : no_session(&w.card.session));
+    }
+    CHECK(w.changes > 20 && w.ends[0] > 20 && w.ends[1] > 20);
+}
+
+static void key_change(void)
+{
+    sets_taken();
+    for (int in_session = 0; in_session < 2; in_session++) {
+        sets_order(counted_card(3, in_session));
+        sets_faults(counted_card(8, in_session));
+    }
+    sets_changed();
+    final_as_before();
+    sets_of_a_list();
 }
 
 /* What Accept has to make of an answer of so many bytes with this body, told a length: its front, or 20 and zeros. */
@@ -1884,6 +2261,7 @@ static void run(void)
     tries_of_a_list();
     tries_held();
     tries_read();
+    key_change();
     unequal_sessions();
     accept_declined();
     accept_lengths();

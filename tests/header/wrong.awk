@@ -3,8 +3,10 @@
 #   awk -v dir=DIR -f wrong.awk plaid.h
 #
 # constant: a constant is one more; one that takes L is one more for every L, for those over 16, and for those over 24. stack: the same of
-# the stack's figures, which tests/stack holds. swapped: two neighbouring fields of a struct change places. moved: the last of three or more stands first. typed: a field has another type. missing: one of several is left
-# out. declared: a function takes one argument more. narrowed: a number that a function takes has one byte, to which a compiler cuts it.
+# the stack's figures, which tests/stack holds. swapped: two neighbouring fields of a struct change places. moved: the last of three or more
+# stands first. typed: a field has another type. missing: one of several is left out. declared: a function takes one argument more.
+# reordered: two neighbouring arguments of a function change places. narrowed: a number that a function takes has one byte, to which a
+# compiler cuts it.
 
 { line[NR] = $0 }
 
@@ -59,6 +61,21 @@ function field(at,    label, alone) {
     }
 }
 
+# The declaration of `function_name`, which begins at a line: each two neighbouring arguments.
+function reorder(at,    text, end, start, n, argument, i, j, list) {
+    text = line[at]
+    for (end = at; line[end] !~ /;$/;) text = text line[++end]
+    start = index(text, "(")
+    n = split(substr(text, start + 1, length(text) - start - 2), argument, / *, */)
+    for (i = 1; i < n; i++) {
+        list = ""
+        for (j = 1; j <= n; j++) list = list (j > 1 ? ", " : "") argument[j == i ? i + 1 : j == i + 1 ? i : j]
+        edit[at] = substr(text, 1, start) list ");"
+        for (j = at + 1; j <= end; j++) edit[j] = ""
+        write("reordered", function_name ": " argument[i] " and the next")
+    }
+}
+
 # Each size_t at a line of the declaration of `function_name`, as uint8_t.
 function narrow(at,    start, name) {
     for (start = 1; match(substr(line[at], start), /size_t [a-z_]+/); start += RSTART + RLENGTH - 1) {
@@ -93,6 +110,7 @@ END {
             write("declared", line[i])
             function_name = word[2]
             sub(/\(.*/, "", function_name)
+            reorder(i)
         }
         if (function_name != "") narrow(i)
         if (line[i] ~ /;$/) function_name = ""

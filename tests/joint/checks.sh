@@ -86,7 +86,7 @@ session_lines() {
     # The list as another maker's reader writes it, if the session has it so.
     [ -z "$(of 'IA command, other lengths')" ] || command=$(of 'IA command, other lengths')
     echo "call interface=0 command=$command fresh=$(fresh "$(of RND1)" "$(of PS)") out=256 => number=0 status=36864 length=256 handle=$ia" \
-        "answer=$(of EM) session=$(decimal "$(of KeySetID)"):$(of RND1)"
+        "answer=$(of EM) session=$(opened_session)"
     echo "open l=16 ids=${ids#,} blocks=$blocks => number=0 place=$(place "$list" "$(of KeySetID)") id=$(decimal "$(of KeySetID)")" \
         "div=$(at DivData) rnd1=$(of RND1)"
     command=$(of 'FA command')
@@ -99,6 +99,8 @@ session_lines() {
     echo "accept l=16 keyshash=$(of KeysHash) div=$(at DivData) reclen=$((${#record} / 2)) response=$answer work=$(zeros ${#answer})" \
         "=> number=0 record=$record work=$(of 'STR3 padded')"
 }
+# The session that an initial command opens: KeySetID, RND1 and FAKey.
+opened_session() { printf '%d:%s' "0x$(of KeySetID)" "$(of RND1):$(of FAKey)"; }
 # The place of a KeySetID in a list, counted from 0.
 place() { local i; for ((i = 0; i < ${#1}; i += 4)); do [ "${1:i:4}" != "$2" ] || { echo $((i / 4)); return; }; done; echo none; }
 

@@ -15,7 +15,7 @@ silent() {
 }
 opened() {
     local section='session 1'
-    says "$1" "$(call "$(initial "$2")" "$(fresh "$(of RND1)" "$(of PS)")")" "$(answered "$ia" "$(of EM)" "1:$(of RND1)")"
+    says "$1" "$(call "$(initial "$2")" "$(fresh "$(of RND1)" "$(of PS)")")" "$(answered "$ia" "$(of EM)" "$(opened_session)")"
 }
 # A command that is no PLAID operation gets a status alone. No session is open before it.
 status() {
@@ -71,7 +71,7 @@ unpadded_final() {
     data=$(of eSTR2)
     data=${data:0:${#data}-32}
     ps=$(of PS)
-    says "unpadded: initial" "$(call "$(of 'IA command')" "$(fresh "$(of RND1)" "$ps")")" "$(answered "$ia" "$(of EM)" "4:$(of RND1)")"
+    says "unpadded: initial" "$(call "$(of 'IA command')" "$(fresh "$(of RND1)" "$ps")")" "$(answered "$ia" "$(of EM)" "$(opened_session)")"
     section=stranger
     says "unpadded: final" "$(call "00860000$(lc "$data")${data}00" "$(fresh "$(of 'random string 3')" "$ps")")" "$(answered 0 "$(of AESEncrypt)" -)"
 }
@@ -81,13 +81,23 @@ turns() {
     local section name refusal
     for section in 'session 1' 'session 2'; do
         says "turns: initial, $section" "$(call "$(of 'IA command')" "$(fresh "$(of RND1)" "$(of PS)")")" \
-            "$(answered "$ia" "$(of EM)" "$(decimal "$(of KeySetID)"):$(of RND1)")"
+            "$(answered "$ia" "$(of EM)" "$(opened_session)")"
     done
     section=stranger
     refusal=$(of AESEncrypt)
     for name in 'session 1' 'session 2'; do
         says "turns: final, $name" "$(call "${v[$name/FA command]}" "$(fresh "$(of 'random string 3')" "$(of PS)")")" "$(answered 0 "$refusal" -)"
     done
+}
+
+# Session 1 with a load of key sets between its commands that drops its set: its answers are the file's. Behind it set 0001 is a stranger's.
+key_change() {
+    local section='session 1'
+    opened "key change: initial" 300404020001
+    says "key change: load" "sets sets=2:$ia:$(at 'ShillKey (AES)')" number=0
+    says "key change: load, declined" "sets sets=1:$shill:$(of FAKey)" number=3
+    says "key change: final" "$(call "$(of 'FA command')" "$(fresh "" "$(of PS)")")" "$(answered 0 "$(of eSTR3)" -)"
+    silent "key change: the next initial" 300404020001
 }
 
 # The other maker's card: a record of 16 bytes answered without padding, refusals of any length, a KeySetID that is not the entry's.
@@ -125,6 +135,7 @@ wire_checks() {
         list_lines
         unpadded_final
         turns
+        key_change
     done >"$room/wire"
     interface=
     { answer_lines; length_lines; } >>"$room/wire"

@@ -24,6 +24,7 @@
 
 /* A result of more than 16 bytes goes where the first argument points (System V ABI, x86-64): no copy of it is on the caller's stack. */
 typedef void raw_load(void *, const plaid_key_set *, size_t, plaid_given, const uint8_t *, size_t);
+typedef void raw_load_sets(void *, const plaid_key_set *, size_t, plaid_card);
 typedef void raw_command(void *, plaid_card, size_t, const uint8_t *, size_t, const uint8_t *, size_t, uint8_t *, size_t);
 typedef void raw_open(void *, size_t, plaid_ids, const uint8_t *, size_t);
 typedef void raw_seal(void *, plaid_sealing, const uint8_t *, size_t, uint8_t *, size_t);
@@ -31,6 +32,7 @@ typedef void raw_seal(void *, plaid_sealing, const uint8_t *, size_t, uint8_t *,
 /* volatile, or a compiler sees the other type and makes no call. */
 #define AS(type, function) ((type *)(void (*)(void))(function))
 static raw_load *volatile load_at = AS(raw_load, plaid_load);
+static raw_load_sets *volatile load_sets_at = AS(raw_load_sets, plaid_load_sets);
 static raw_command *volatile command_at = AS(raw_command, plaid_command);
 static raw_open *volatile open_at = AS(raw_open, plaid_open);
 static raw_seal *volatile seal_at = AS(raw_seal, plaid_seal);
@@ -118,6 +120,13 @@ static void given_card(void)
     memset(fresh, 0xF5, sizeof fresh);
     memset(out, 0, sizeof out);
 }
+
+/* Key sets for that card: the same eight, one of them alone, or such as are declined. */
+static void given_one_set(void) { given_card(); set_count = 1; }
+static void given_too_many_sets(void) { given_card(); set_count = PLAID_CARD_KEY_SETS + 1; }
+static void given_short_set(void) { given_card(); sets[7].fa_key.length--; }
+static void given_set_twice(void) { given_card(); sets[7].id = sets[6].id; }
+static void given_shill_set(void) { given_card(); sets[7].handle = card.shill_handle; }
 
 /* The initial command of the greatest Lc, 255: 63 entries, of which the card holds the last, or none. */
 static void given_list(bool held)
@@ -288,6 +297,7 @@ static bool answered(size_t length)
 /* The functions, with the bytes of their arguments on the stack: structs over 16 bytes, and integers past the sixth. */
 #define FUNCTIONS(f) \
     f(LOAD, plaid_load, sizeof(plaid_given)) \
+    f(LOAD_SETS, plaid_load_sets, sizeof(plaid_card)) \
     f(COMMAND, plaid_command, sizeof(plaid_card) + 2 * sizeof(size_t)) \
     f(READ_TRIES, plaid_read_tries, sizeof(plaid_card)) \
     f(LIST, plaid_list, sizeof(plaid_ids)) \
@@ -302,6 +312,8 @@ static bool answered(size_t length)
 
 #define LOADS(label, give, test) \
     c(LOAD, label, give, load_at(&loaded, sets, set_count, given, area, sizeof area), test)
+#define LOADS_SETS(label, give, test) \
+    c(LOAD_SETS, label, give, load_sets_at(&loaded, sets, set_count, card), test)
 #define RUNS(label, give, fresh_len, out_len, test) \
     c(COMMAND, label, give, command_at(&outcome, card, interface, command, command_len, fresh, fresh_len, out, out_len), test)
 
@@ -319,6 +331,13 @@ static bool answered(size_t length)
     LOADS(load_refused_5, given_bad_mode, loaded.number == PLAID_DECLINE_MODE_REPEATED) \
     LOADS(load_refused_6, given_bad_record, loaded.number == PLAID_DECLINE_RECORD) \
     LOADS(load_equal_sizes, given_equal_sizes, loaded.number == PLAID_DONE && loaded.card.reply_size == 6) \
+    LOADS_SETS(sets_accepted, given_card, loaded.number == PLAID_DONE && loaded.card.sets[7].held) \
+    LOADS_SETS(sets_accepted_one, given_one_set, loaded.number == PLAID_DONE && !loaded.card.sets[1].held) \
+    LOADS_SETS(sets_in_session, given_longest_final, loaded.number == PLAID_DONE && loaded.card.session.opened) \
+    LOADS_SETS(sets_refused_1, given_too_many_sets, loaded.number == PLAID_DECLINE_KEY_SET_COUNT) \
+    LOADS_SETS(sets_refused_22, given_short_set, loaded.number == PLAID_DECLINE_VALUE_LENGTH) \
+    LOADS_SETS(sets_refused_2, given_set_twice, loaded.number == PLAID_DECLINE_KEY_SET_REPEATED) \
+    LOADS_SETS(sets_refused_3, given_shill_set, loaded.number == PLAID_DECLINE_SHILL_HANDLE) \
     RUNS(declined_26, given_no_interface, PLAID_FRESH, PLAID_OUTPUT, outcome.answer.number == PLAID_DECLINE_INTERFACE) \
     RUNS(declined_8, given_initial, PLAID_FRESH - 1, PLAID_OUTPUT, outcome.answer.number == PLAID_DECLINE_FRESH_COUNT) \
     RUNS(declined_9, given_zero_pad, PLAID_FRESH, PLAID_OUTPUT, outcome.answer.number == PLAID_DECLINE_PAD_BYTE) \
