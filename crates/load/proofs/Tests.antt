@@ -1,6 +1,6 @@
 -- The tests of a load: what it answers, by what each test says. Assumes nothing.
 use Prim.Native.Nat.{ℕ, _<_, _≤_}
-use mathlib.Core.Path.{_≡_, sym, ap₂, _∙_}
+use mathlib.Core.Path.{_≡_, sym, ap, _∙_}
 use mathlib.Core.Bool.{Bool, true, false, cond, not, _||_}
 use mathlib.Core.List.{List}
 use borrow.Author.Tests.{lt-ltb, le-ltb, eq-eqb, ne-eqb}
@@ -22,9 +22,9 @@ count-over most n e h = simp (ne-eqb n 0 e, lt-ltb most n h)
 pub count-within : (most n : ℕ) → (n ≡ 0 → ⊥) → n ≤ most → miscounted most n ≡ false
 count-within most n e h = simp (ne-eqb n 0 e, le-ltb most n h)
 
--- one of two tests
-pub either-of : {a b p q r t : Bool} → r ≡ (a || b) → a ≡ p → b ≡ q → r ≡ t → (p || q) ≡ t
-either-of e x y z = sym (e ∙ ap₂ (λ (u v : Bool). u || v) x y) ∙ z
+-- one of two tests, of which the second is given
+pub either-of : {p r t : Bool} (a b : Bool) → r ≡ (a || b) → a ≡ p → r ≡ t → (p || b) ≡ t
+either-of a b e x z = sym (e ∙ ap (λ (u : Bool). u || b) x) ∙ z
 
 -- all of those of key sets
 pub answers : (l : ℕ) (sets : List KeySet) (n : ℕ) (other : Bool) (handle : ℕ) {s k t u : Bool} →

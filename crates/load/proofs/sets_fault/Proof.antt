@@ -31,7 +31,7 @@ returns-3 c =
     let a = d .before .before .args in
     answers (a .l) (a .sets) (a .n) (a .other) (a .handle)
     (count-within 8 (a .n) (d .before .if1 .left) (d .if2 .left))
-    (either-of (c .before .either .ensures) (w .wrong-sets .ensures .0) refl (c .if3 .taken))
+    (either-of (w .wrong-sets .result .key) (a .other) (c .before .either .ensures) (w .wrong-sets .ensures .0) (c .if3 .taken))
     refl refl
 
 set-ids-requires : tie.Need-set-ids-requires
@@ -52,7 +52,7 @@ returns-4 c =
     let a = d .before .before .args in
     answers (a .l) (a .sets) (a .n) (a .other) (a .handle)
     (count-within 8 (a .n) (d .before .if1 .left) (d .if2 .left))
-    (either-of (e .before .either .ensures) (w .wrong-sets .ensures .0) refl (e .if3 .left))
+    (either-of (w .wrong-sets .result .key) (a .other) (e .before .either .ensures) (w .wrong-sets .ensures .0) (e .if3 .left))
     (given-once (λ (x : KeySet). x .id .0) (a .sets) (a .n) _ _ _ (f .repeats .ensures) (f .before .before .set-ids .ensures) (c .if4 .taken))
     refl
 
@@ -65,7 +65,7 @@ returns-5 c =
     let a = d .before .before .args in
     answers (a .l) (a .sets) (a .n) (a .other) (a .handle)
     (count-within 8 (a .n) (d .before .if1 .left) (d .if2 .left))
-    (either-of (e .before .either .ensures) (w .wrong-sets .ensures .0) refl (e .if3 .left))
+    (either-of (w .wrong-sets .result .key) (a .other) (e .before .either .ensures) (w .wrong-sets .ensures .0) (e .if3 .left))
     (given-once (λ (x : KeySet). x .id .0) (a .sets) (a .n) _ _ _ (f .repeats .ensures) (f .before .before .set-ids .ensures) (c .before .if4 .left))
     (sym (w .wrong-sets .ensures .1) ∙ c .if5 .taken)
 
@@ -78,7 +78,7 @@ returns-6 c =
     let a = d .before .before .args in
     answers (a .l) (a .sets) (a .n) (a .other) (a .handle)
     (count-within 8 (a .n) (d .before .if1 .left) (d .if2 .left))
-    (either-of (e .before .either .ensures) (w .wrong-sets .ensures .0) refl (e .if3 .left))
+    (either-of (w .wrong-sets .result .key) (a .other) (e .before .either .ensures) (w .wrong-sets .ensures .0) (e .if3 .left))
     (given-once (λ (x : KeySet). x .id .0) (a .sets) (a .n) _ _ _ (f .repeats .ensures) (f .before .before .set-ids .ensures) (c .before .if4 .left))
     (sym (w .wrong-sets .ensures .1) ∙ c .if5 .left)
 
