@@ -5,7 +5,6 @@ use mathlib.Core.List.{List}
 use Prim.Native.Nat.{ℕ, _≤_}
 use native.Mathlib.Nat.{le-refl}
 use borrow.Author.Tests.{eqb-true, eq-eqb, ne-eqb}
-use lib.Dec.{eqb}
 use lib.ListN.{length, take}
 use lib.Seq.{take-length}
 use Rattle.plaid_types.specs.Keys.{keyLengthOf}
@@ -16,7 +15,7 @@ use Rattle.plaid_types.specs.declared.Session.{Session}
 use Rattle.plaid_types.specs.declared.Tries.{Tries}
 use Rattle.plaid_types.specs.declared.Card.{Card}
 use Rattle.load.specs.Load.{miscounted, setsRefusal, tableOf}
-use Rattle.load.specs.Laws.{counted, SetsRight, sets-right, Tabled, tabled, Stocked, stocked-sets}
+use Rattle.load.specs.Laws.{counted, number-of, SetsRight, sets-right, Tabled, tabled, Stocked, stocked-sets}
 use Rattle.load.specs.declared.Loaded.{Loaded}
 use Rattle.key_change.specs.KeyChange.{changeRefusal, changed, setsLoaded, takesSets}
 
@@ -44,15 +43,11 @@ module _ (c : Card) (a b : List KeySet) (n : ℕ) where
   pub change-counted : (n ≤ 8 → take n a ≡ take n b) → changed c a n ≡ changed c b n
   change-counted = counted-by (miscounted 8 n) refl
 
-number-by : (r : ℕ) (c k : Card) (t : Bool) → eqb r 0 ≡ t → cond {A = Loaded} t (record { number = 0; card = k }) (record { number = r; card = c }) .number ≡ r
-number-by r c k true e = sym (eqb-true r 0 e)
-number-by r c k false e = refl
-
 -- of the caller's list: its number, and "a refused one keeps the old table"
 module _ (c : Card) (sets : List KeySet) where
   pub sets-number : setsLoaded c sets .number ≡ changeRefusal c sets (length sets)
   unfolding setsLoaded changed
-  sets-number = number-by (changeRefusal c sets (length sets)) c (withSets c (tableOf (take (length sets) sets))) (takesSets c sets) refl
+  sets-number = number-of (changeRefusal c sets (length sets)) (withSets c (tableOf (take (length sets) sets))) c (takesSets c sets) refl
 
   pub sets-refused : (setsLoaded c sets .number ≡ 0 → ⊥) → setsLoaded c sets .card ≡ c
   unfolding setsLoaded

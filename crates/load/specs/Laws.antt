@@ -258,15 +258,16 @@ not-seven false false false false false false true x z = omega arith
 not-seven false false false false false false false true z = omega arith
 not-seven false false false false false false false false z = omega arith
 
-number-of : (r : ℕ) (c : Card) (t : Bool) → eqb r 0 ≡ t → cond {A = Loaded} t (record { number = 0; card = c }) (record { number = r; card = blankCard }) .number ≡ r
-number-of r c true e = sym (eqb-true r 0 e)
-number-of r c false e = refl
+-- the number of what is handed back with the card c, or with k where r refuses
+pub number-of : (r : ℕ) (c k : Card) (t : Bool) → eqb r 0 ≡ t → cond {A = Loaded} t (record { number = 0; card = c }) (record { number = r; card = k }) .number ≡ r
+number-of r c k true e = sym (eqb-true r 0 e)
+number-of r c k false e = refl
 
 module _ (l : ℕ) (sets : List KeySet) (n : ℕ) (modes : List Mode) (m : ℕ) (area div : List ℕ) (key : Value) (handle : ℕ) where
   pub load-number : loaded l sets n modes m area div key handle .number ≡ refusal l sets n modes m (length area) key handle
   unfolding loaded
   load-number =
-      number-of (refusal l sets n modes m (length area) key handle) (loadedCard l (take n sets) (take m modes) area div key handle)
+      number-of (refusal l sets n modes m (length area) key handle) (loadedCard l (take n sets) (take m modes) area div key handle) blankCard
       (eqb (refusal l sets n modes m (length area) key handle) 0) refl
 
   pub no-seven : loaded l sets n modes m area div key handle .number ≡ 7 → ⊥
