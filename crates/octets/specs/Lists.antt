@@ -1,5 +1,5 @@
 -- Lists by their index, a part of a list, and one list written over another. Assumes nothing.
-use Rattle.std.specs.Prelude.{◌≡◌, refl, List, [], ◌∷◌, ◌++◌, ℕ, zero, suc, ◌+◌, ◌-◌, ◌<◌, ◌≤◌, length, get_or, take, drop}
+use Rattle.std.specs.Prelude.{◌≡◌, refl, List, [], ◌∷◌, ◌++◌, ℕ, zero, suc, ◌+◌, ◌<◌, ◌≤◌, length, get_or, take, drop}
 use Rattle.std.proofs.Common.{sym, ap, ap₂, ◌∙◌, append-nil, add-zero, add-suc, suc-add, not-suc-le-zero, le_of_suc-le-suc, arith, length-append, length-drop, drop_of_length-le, take-append-drop, length-take-le, drop-cons, get_or-drop, get_or-take}
 
 -- one element equal, and the rest

@@ -1,4 +1,6 @@
 //! Bytes in blocks of sixteen.
+#![tactic(auto)]
+
 ghost use Rattle.std.specs.Prelude.{◌≡◌, ◌+◌, ◌*◌, ◌≤◌, length, ◌&&◌};
 ghost use Rattle.octets.specs.Bytes.{same};
 ghost use Rattle.octets.specs.Lists.{part, over};
