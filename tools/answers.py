@@ -59,7 +59,11 @@ class Turned:
                 self.steps.setdefault(norm(old), new)
         for (old, new), _ in names["loops"]:
             self.steps.setdefault(norm(old), new)
-        self.args = {norm(p[0]): p[1] for p in names["args"] if isinstance(p, list) and len(p) == 2}
+        self.args = {}
+        for old, new in names.get("args", []):
+            if old.startswith(".args ."):
+                self.args[norm(old[7:])] = new[7:]
+        self.params = {norm(k.split("::")[-1]): v for k, v in names.get("params", {}).items()}
         self.left = []
 
     def path(self, root, parts, level, out_root):
@@ -85,7 +89,8 @@ class Turned:
                     k = 0
                     while i + 1 + k < len(parts) and parts[i + 1 + k] == "1":
                         k += 1
-                    names = parameters(self.crate, re.sub(r"\d*$", "", norm(step)).replace("-", "_")) or parameters(self.crate, norm(step).replace("-", "_"))
+                    callee = norm(step)
+                    names = self.params.get(callee) or self.params.get(re.sub(r"-?\d*$", "", callee)) or parameters(self.crate, callee.replace("-", "_")) or parameters(self.crate, re.sub(r"-?\d*$", "", callee).replace("-", "_"))
                     if i + 1 + k < len(parts) and parts[i + 1 + k] == "0" and k < len(names):
                         new += ["new", names[k]]
                         i += k + 1
@@ -138,6 +143,14 @@ class Turned:
                 known.pop(name, None)
             at = m.end()
         return "".join(out)
+
+
+def first_word(text):
+    """What a declaration declares."""
+    words = text.split()
+    while words[0] in ("abbrev", "pub", "unfoldable", "record", "data"):
+        words = words[1:]
+    return words[0]
 
 
 def replaced(text, words):
@@ -234,9 +247,14 @@ def turn(crate, fn, names):
     extra = ["\n".join(h) for h in helpers]
     used = lambda ds: uses + ["use Rattle.std.proofs.Common.{rules}"]
     if invariants:
-        inside = [h for h in extra if any(re.search(r"(?<![\w-])%s(?![\w-])" % re.escape(re.sub(r"^(abbrev|pub|unfoldable|\s)+", "", h).split()[0]), i) for i in invariants)]
+        inside = [h for h in extra if any(re.search(r"(?<![\w-])%s(?![\w-])" % re.escape(first_word(h)), i) for i in invariants)]
         extra = [h for h in extra if h not in inside]
-        texts["Invariants.antt"] = "\n".join(comments + uses + ["use %s.Given as goal" % module]) + "\n\n" + "\n\n".join(inside + invariants) + "\n"
+        shared = [first_word(h) for h in inside]
+        inside = [h if re.search(r"(^|\s)pub\s", h.split(":")[0]) else re.sub(r"^((?:abbrev |unfoldable )?)", r"\1pub ", h, count=1) for h in inside]
+        inside = [re.sub(r"\n  (?=\w)", "\n  pub ", h) if re.match(r"(pub )?record", h) else h for h in inside]
+        if shared:
+            uses = uses + ["use %s.Invariants.{%s}" % (module, ", ".join(shared))]
+        texts["Invariants.antt"] = "\n".join(comments + [u for u in uses if ".Invariants.{" not in u] + ["use %s.Given as goal" % module]) + "\n\n" + "\n\n".join(inside + invariants) + "\n"
     if answers or extra:
         texts["Answers.antt"] = "\n".join(comments + used(answers) + ["use %s.Goals as goal" % module]) + "\n\n" + "\n\n".join(extra + answers) + "\n"
     for f, x in texts.items():
@@ -251,7 +269,10 @@ def turn(crate, fn, names):
 def main():
     crate, only = sys.argv[1], sys.argv[2:]
     with tempfile.TemporaryDirectory() as room:
-        subprocess.run(["rt", "check", "--generated", room, "--old-names"], cwd="crates/" + crate, stdout=subprocess.DEVNULL, stderr=subprocess.DEVNULL)
+        said = subprocess.run(["rt", "check", "--generated", room, "--old-names"], cwd="crates/" + crate, stdout=subprocess.PIPE, stderr=subprocess.STDOUT, text=True).stdout
+        if not os.path.exists(room + "/names.json"):
+            print("%s: no names; rt check says:\n%s" % (crate, "\n".join([l for l in said.split("\n") if "error" in l][:20])))
+            return
         with open(room + "/names.json", encoding="utf-8") as it:
             names = json.load(it)
     for f in sorted(glob.glob("crates/%s/proofs/**/Proof.antt" % crate, recursive=True)):

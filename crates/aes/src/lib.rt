@@ -1,4 +1,6 @@
 //! AES of FIPS 197: one block enciphered or deciphered under the round keys of a key of 16, 24 or 32 bytes.
+#![tactic(auto)]
+
 ghost use Rattle.std.specs.Prelude.{◌≡◌, ◌<◌, length};
 ghost use Rattle.sbox.specs.Rule.{sbox_table, inv_table};
 ghost use Rattle.aes.specs.Aes.{cipher_by, inv_cipher_by};

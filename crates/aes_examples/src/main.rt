@@ -1,3 +1,5 @@
+#![tactic(auto)]
+
 // Runs the worked examples of FIPS 197: appendices A.1 to A.3 (the expansion of a key of 128, 192 and 256 bits), B (a cipher example) and C.1 to
 // C.3 (AES-128, AES-192, AES-256).
 ghost use Rattle.std.specs.Prelude.{◌≤◌, length};

@@ -1,3 +1,5 @@
+#![tactic(auto)]
+
 // Runs a text under a key of AES and compares the result with the one wanted; counts and says what the runs gave.
 //
 // CBC takes its start block as an argument: a vector's IV is run by passing it there.
@@ -11,7 +13,7 @@ use tally::compare;
 pub use tally::{Ran, Tally};
 
 // How a text is run: each block by itself (ECB) or chained (CBC), and in which direction.
-#[derive(Drop)]
+#[derive(Clone, Copy)]
 pub struct Mode {
     pub is_chained: bool,
     pub is_inverse: bool,

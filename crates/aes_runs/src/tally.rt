@@ -1,7 +1,7 @@
 // What a run found, and how it is said.
 
 // What one record gave.
-#[derive(Drop)]
+#[derive(Clone, Copy)]
 pub enum Ran {
     Agrees,
     Differs,
@@ -9,7 +9,7 @@ pub enum Ran {
 }
 
 // What all records gave so far.
-#[derive(Drop)]
+#[derive(Clone, Copy)]
 pub struct Tally {
     pub enciphered: u64,
     pub deciphered: u64,

@@ -1,3 +1,5 @@
+#![tactic(auto)]
+
 // Runs NIST's response files for AES with keys of 128, 192 and 256 bits, ECB and CBC, in both directions. A file that cannot be read, and a
 // record that cannot, each gives a line of its own, as a block that differs does. A record whose key has not the length that the file's name
 // says is one that cannot be read.
@@ -27,7 +29,7 @@ fn section_at(s: &[u8], i: usize, last: u8) -> u8 {
 }
 
 // What a file's name says of its records: whether they are chained (CBC), and how many bytes their keys have.
-#[derive(Drop)]
+#[derive(Clone, Copy)]
 struct Kind {
     is_chained: bool,
     key_length: usize,

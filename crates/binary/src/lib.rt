@@ -1,4 +1,6 @@
 //! Bytes and their bits, the high one first.
+#![tactic(auto)]
+
 ghost use Rattle.std.specs.Prelude.{◌≡◌, ℕ, ◌+◌, ◌*◌, ◌≤◌, length, get_or};
 ghost use Rattle.octets.specs.Lists.{part};
 ghost use Rattle.binary.specs.Binary.{value, binary, bytes_of, bits_of};

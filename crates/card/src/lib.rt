@@ -1,4 +1,6 @@
 //! A command call on a card: the checks of the call, then the initial or the final command.
+#![tactic(auto)]
+
 ghost use Rattle.std.specs.Prelude.{◌≡◌, ◌-◌, ◌≤◌, length};
 ghost use Rattle.octets.specs.Lists.{over};
 ghost use Rattle.frame.specs.Frame.{data_of};
@@ -12,7 +14,7 @@ use plaid_types::{Answer, Card, Outcome, Session, Tries};
 
 // What a command call hands back, and of the card only the session, and whether it was a refused final command: `command` copies the card, and
 // the other functions do not.
-#[derive(Drop)]
+#[derive(Clone, Copy)]
 struct Told {
     answer: Answer,
     sum: u32,

@@ -1,4 +1,6 @@
 //! CBC in place over the whole blocks of a lent buffer, with what its cipher steps add to the counts and the work sum.
+#![tactic(auto)]
+
 ghost use Rattle.std.specs.Prelude.{◌≡◌, true, ◌+◌, ◌/◌, ◌^◌, ◌<◌, length};
 ghost use Rattle.sbox.specs.Rule.{sbox_table, inv_table};
 ghost use Rattle.key_expansion.specs.KeyLength.{is_key_length};
@@ -12,14 +14,14 @@ ghost use Rattle.cbc.specs.Steps.{enciphered, deciphered, made};
 use work::Prepared;
 
 // How many steps were made, and the work sum after them.
-#[derive(Drop)]
+#[derive(Clone, Copy)]
 pub struct Made {
     pub count: usize,
     pub sum: u32,
 }
 
 // The block that a step's turn puts out, with the count and the work sum after the step.
-#[derive(Drop)]
+#[derive(Clone, Copy)]
 struct Stepped {
     block: [u8; 16],
     count: usize,

@@ -1,4 +1,6 @@
 //! A column of the state as a 32-bit word, and the two column mixings on it (T-03).
+#![tactic(auto)]
+
 ghost use Rattle.std.specs.Prelude.{◌≡◌, ◌+◌, ◌≤◌, get_or};
 ghost use Rattle.field.specs.Field.{x_times};
 ghost use Rattle.column.specs.Word.{word, word_of, byte_at, put, turned, word_times};

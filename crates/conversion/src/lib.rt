@@ -1,11 +1,13 @@
 //! What a conversion of door numbers hands back and leaves in the output (document 02, T-05).
+#![tactic(auto)]
+
 ghost use Rattle.std.specs.Prelude.{◌≡◌, ◌≤◌, length};
 ghost use Rattle.octets.specs.Lists.{over};
 ghost use Rattle.conversion.specs.Conversion.{misfit, made};
 
 // What a conversion hands back: the number, and the result's length.
 #[repr(C)]
-#[derive(Drop)]
+#[derive(Clone, Copy)]
 pub struct Converted {
     pub number: u8,
     pub length: usize,

@@ -1,4 +1,6 @@
 //! Key diversification (document 002, clause 10): DivData enciphered under a FAKey of 16, 24 or 32 bytes.
+#![tactic(auto)]
+
 ghost use Rattle.std.specs.Prelude.{◌≡◌, true, ◌/◌, length};
 ghost use Rattle.sbox.specs.Rule.{sbox_table};
 ghost use Rattle.key_expansion.specs.KeyLength.{is_key_length};
@@ -13,7 +15,7 @@ use work::Prepared;
 const ENCIPHERMENT: u8 = 3;
 
 // The diversified key, in the first of 32 bytes, with the count and the work sum of the encipherments that made it.
-#[derive(Drop)]
+#[derive(Clone, Copy)]
 pub struct Diversified {
     pub key: [u8; 32],
     pub count: usize,

@@ -10,7 +10,7 @@ const KEPT: usize = 40;
 
 // The first bytes of a line, with zeros behind them, and how many bytes it has in all. A CR that stands last is in neither, since with an LF
 // behind it it is the line's end and no byte of it: `cr` says that it was read.
-#[derive(Drop)]
+#[derive(Clone, Copy)]
 pub struct Line {
     pub start: [u8; 40],
     pub length: usize,

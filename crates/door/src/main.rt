@@ -1,11 +1,13 @@
 //! Door numbers to and from records, line by line (document 02, T-05): each line of standard input, a Wiegand number, a UUID or a record
 //! in hexadecimal, is written to standard output with its other form, or with its number and the reason in words.
+#![tactic(auto)]
+
 use line::Line;
 
 mod line;
 
 // What is left of a run behind some bytes: the line that they began, and whether more is to be read.
-#[derive(Drop)]
+#[derive(Clone, Copy)]
 struct Run {
     line: Line,
     open: bool,

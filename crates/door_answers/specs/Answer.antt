@@ -3,7 +3,7 @@ use Rattle.std.specs.Prelude.{Bool, true, false, cond, List, [], ◌++◌, ℕ, 
 use Rattle.conversion.specs.Conversion.{each}
 use Rattle.wiegand.specs.Wiegand as wiegand
 use Rattle.wiegand_parts.specs.WiegandParts.{facility_of, number_of}
-use Rattle.uuid.specs.Uuid as uuid
+use Rattle.uuids.specs.Uuid as uuid
 use Rattle.hexadecimal.specs.Hexadecimal.{is_digit, octets_of, digits_of}
 use Rattle.printing.specs.Printing.{ascii, decimal, shown}
 

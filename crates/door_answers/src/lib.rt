@@ -1,4 +1,6 @@
 //! The answer of the program `door` to a line of its input (document 02, T-05): the line's other form, or its number and the reason in words.
+#![tactic(auto)]
+
 ghost use Rattle.std.specs.Prelude.{◌≡◌, ◌+◌, ◌*◌, ◌≤◌, min, length};
 ghost use Rattle.printing.specs.Printing.{Written};
 ghost use Rattle.door_answers.specs.Answer.{fault, wrong_length, apart, wiegand_text, uuid_text, in_hexadecimal, of_record, of_uuid_record, verdict, heading, answer};
@@ -101,7 +103,7 @@ fn uuid_text(out: &mut [u8], at: usize, line: &[u8]) -> usize
     ensures upper_bound { result ≤ at + 100 }
 {
     let mut record = [0u8; 16];
-    let made = uuid::to_record(line, &mut record);
+    let made = uuids::to_record(line, &mut record);
     if made.number != 0 {
         return fault(out, at, made.number, false);
     }
@@ -116,7 +118,7 @@ fn of_uuid_record(out: &mut [u8], at: usize, sixteen: [u8; 16]) -> usize
     ensures upper_bound { result ≤ at + 100 }
 {
     let mut other = [0u8; 36];
-    let made = uuid::to_text(&sixteen, &mut other);
+    let made = uuids::to_text(&sixteen, &mut other);
     if made.number != 0 {
         return fault(out, at, made.number, true);
     }

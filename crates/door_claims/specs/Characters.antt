@@ -6,7 +6,7 @@ use Rattle.octets.specs.Same.{split-and}
 use Rattle.octets.specs.Tests.{below, below_at}
 use Rattle.hexadecimal.specs.Hexadecimal.{is_digit, digit_value, digit}
 use Rattle.hexadecimal.specs.Laws.{digit-cases}
-use Rattle.uuid.specs.Uuid.{hyphen, small}
+use Rattle.uuids.specs.Uuid.{hyphen, small}
 
 -- what a test of the characters says of each digit, and of the digit of each value
 test-true : (t : Bool) → T t → t ≡ true

@@ -6,7 +6,7 @@ use Rattle.octets.specs.Lists.{cons}
 use Rattle.octets.specs.Same.{split-and}
 use Rattle.conversion.specs.Conversion.{each}
 use Rattle.hexadecimal.specs.Hexadecimal.{is_digit, digit_value, digit, octets_of, digits_of}
-use Rattle.uuid.specs.Uuid.{small}
+use Rattle.uuids.specs.Uuid.{small}
 use Rattle.door_claims.specs.Characters.{digit-facts, value-facts, small-digit}
 
 -- the two digits of a byte are digits, and give it back

@@ -5,7 +5,7 @@ use Rattle.octets.specs.Bytes.{Bytes}
 use Rattle.conversion.specs.Conversion.{converted, output_after}
 use Rattle.conversion.specs.declared.Converted.{Converted}
 use Rattle.wiegand.specs.Wiegand as wiegand
-use Rattle.uuid.specs.Uuid as uuid
+use Rattle.uuids.specs.Uuid as uuid
 
 -- a conversion, by the two definitions in its contract: the number for an input and an output of so many bytes, and the result
 pub record Conversion : Type 0 where

@@ -6,7 +6,7 @@ use Rattle.octets.specs.Writes.{take-over}
 use Rattle.conversion.specs.Conversion.{converted, output_after}
 use Rattle.conversion.specs.Answers.{number_is}
 use Rattle.wiegand.specs.Wiegand as w
-use Rattle.uuid.specs.Uuid as uuid
+use Rattle.uuids.specs.Uuid as uuid
 use Rattle.door_claims.specs.Door.{Conversion, wiegand_record, wiegand_text, uuid_record, uuid_text, written, Taken, Back, DoorNumbers}
 use Rattle.door_claims.specs.Wiegand as wb
 use Rattle.door_claims.specs.Uuid as ub

@@ -9,10 +9,10 @@ use Rattle.octets.specs.ByteLists.{part_bytes}
 use Rattle.conversion.specs.Conversion.{misfit, each}
 use Rattle.conversion.specs.Answers.{no-misfit}
 use Rattle.hexadecimal.specs.Hexadecimal.{is_digit, octets_of, digits_of}
-use Rattle.uuid.specs.Uuid.{hyphen, behind_hyphen, text_of, record_of, group_at, formed, small, small_text, text_number, record_number}
+use Rattle.uuids.specs.Uuid.{hyphen, behind_hyphen, text_of, record_of, group_at, formed, small, small_text, text_number, record_number}
 use Rattle.door_claims.specs.Characters.{small-hyphen}
-use Rattle.uuid.specs.Groups.{octets-long, digits_long, length-record, length-text, Group, formed-true}
-use Rattle.uuid.specs.Numbers.{text-taken, text-shown, record-fits, record-shown}
+use Rattle.uuids.specs.Groups.{octets-long, digits_long, length-record, length-text, Group, formed-true}
+use Rattle.uuids.specs.Numbers.{text-taken, text-shown, record-fits, record-shown}
 use Rattle.door_claims.specs.Parts.{part-cons, map-part, joined, joined-map, Apart, apart}
 use Rattle.door_claims.specs.Digits.{digits_are, octets-back, digits-back, each-small, octets-small}
 

@@ -1,4 +1,6 @@
 //! Multiplication in the field of FIPS 197, section 4.
+#![tactic(auto)]
+
 ghost use Rattle.std.specs.Prelude.{◌≡◌};
 ghost use Rattle.field.specs.Field.{x_times};
 

@@ -1,4 +1,6 @@
 //! The final command of a card (document 01, "Final"). Every step is always made, in one order; what they find is judged behind them.
+#![tactic(auto)]
+
 ghost use Rattle.std.specs.Prelude.{◌≡◌, cond, true, ◌&&◌, ◌++◌, ◌+◌, ◌-◌, ◌*◌, ◌/◌, ◌<◌, ◌≤◌, leb, length, get_or};
 ghost use Rattle.octets.specs.Bytes.{same};
 ghost use Rattle.octets.specs.Lists.{part, over};
@@ -33,7 +35,7 @@ fn fa_key(card: Card) -> [u8; Value::MOST]
 }
 
 // The diversified key, in the first of its bytes, and what was made for it.
-#[derive(Drop)]
+#[derive(Clone, Copy)]
 struct Derived {
     key: [u8; Value::MOST],
     encipherments: usize,
@@ -59,7 +61,7 @@ fn diversify(table: &[u8; 256], fa: &[u8], div: [u8; 16], sum: u32) -> Derived
     }
 }
 
-#[derive(Drop)]
+#[derive(Clone, Copy)]
 struct Deciphered {
     text: [u8; Deciphered::TEXT],
     count: usize,
@@ -101,7 +103,7 @@ fn hashed(rnd1: &[u8], text: &[u8], sum: u32) -> steps::Hashing
 }
 
 // KeysHash is the first L bytes of the digest.
-#[derive(Drop)]
+#[derive(Clone, Copy)]
 struct Opened {
     text: [u8; Deciphered::TEXT],
     digest: [u8; 32],
@@ -145,7 +147,7 @@ fn open_text(card: Card, d: &[u8]) -> Opened
     }
 }
 
-#[derive(Drop)]
+#[derive(Clone, Copy)]
 struct Found {
     at: usize,
     count: usize,
@@ -288,7 +290,7 @@ fn reply_text(
     b
 }
 
-#[derive(Drop)]
+#[derive(Clone, Copy)]
 struct Sent {
     encipherments: usize,
     expansions: usize,
@@ -333,7 +335,7 @@ fn reply(
 }
 
 // What is told of a final command beside its bytes: T-06 asks whether it was accepted.
-#[derive(Drop)]
+#[derive(Clone, Copy)]
 pub struct Final {
     pub comparisons: usize,
     pub decipherments: usize,

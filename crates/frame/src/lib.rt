@@ -1,4 +1,6 @@
 //! What is checked of a call before its command is run.
+#![tactic(auto)]
+
 ghost use Rattle.std.specs.Prelude.{◌≡◌, ◌&&◌, cond, not, ◌≤◌, length, drop, eqb};
 ghost use Rattle.frame.specs.Frame.{frame_of, known_ins, whole, status_of};
 ghost use Rattle.frame.specs.Declines.{no_zero, pad_bytes, verdict};
@@ -6,7 +8,7 @@ ghost use Rattle.frame.specs.Declines.{no_zero, pad_bytes, verdict};
 use plaid_types::{Answer, Fresh, Interface};
 
 // 9000 where the call goes on; a number, or a status of ISO/IEC 7816-4, where it is declined.
-#[derive(Drop)]
+#[derive(Clone, Copy)]
 pub struct Verdict {
     pub number: u8,
     pub status: u16,

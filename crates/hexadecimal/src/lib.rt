@@ -1,4 +1,6 @@
 //! Hexadecimal digits: bytes to digits and back (document 02, T-05, by RFC 4122's hexDigit and hexOctet).
+#![tactic(auto)]
+
 ghost use Rattle.std.specs.Prelude.{◌≡◌, true, ◌+◌, ◌*◌, ◌≤◌, ◌<◌, length};
 ghost use Rattle.octets.specs.Lists.{over};
 ghost use Rattle.conversion.specs.Conversion.{each};

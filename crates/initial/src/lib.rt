@@ -1,4 +1,6 @@
 //! The initial command: the places of its list against the key sets of a card, and the block that answers it.
+#![tactic(auto)]
+
 ghost use Rattle.std.specs.Prelude.{◌≡◌, cond, ◌-◌, ◌<◌, ◌≤◌, eqb, length};
 ghost use Rattle.octets.specs.Lists.{part, over};
 ghost use Rattle.plaid_types.specs.Keys.{str1_length};
@@ -10,7 +12,7 @@ use list::Listed;
 use plaid_types::{Answer, Card, KeySetId, KeySetSlot, Session};
 
 // Where the first match is (8: none), how many comparisons there were, and the work sum after them.
-#[derive(Drop)]
+#[derive(Clone, Copy)]
 pub struct Found {
     pub at: usize,
     pub count: usize,
@@ -158,7 +160,7 @@ fn opened_of_length(l: usize, k: KeySetSlot, div: [u8; 16], fresh: &[u8], out: &
 }
 
 // What an initial command hands back beside the bytes of its answer.
-#[derive(Drop)]
+#[derive(Clone, Copy)]
 pub struct Initial {
     pub handle: u8,
     pub comparisons: usize,

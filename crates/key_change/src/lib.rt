@@ -1,4 +1,6 @@
 //! A load of key sets onto a card (document 02, T-07): the table changes, and nothing else does.
+#![tactic(auto)]
+
 ghost use Rattle.std.specs.Prelude.{◌≡◌};
 ghost use Rattle.key_change.specs.KeyChange.{changed};
 

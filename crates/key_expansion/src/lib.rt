@@ -1,4 +1,6 @@
 //! Key expansion of FIPS 197, section 5.2, for keys of 16, 24 and 32 bytes.
+#![tactic(auto)]
+
 ghost use Rattle.std.specs.Prelude.{◌≡◌, true, ◌+◌, ◌*◌, ◌/◌, ◌<◌, ◌≤◌, length, get_or};
 ghost use Rattle.std.specs.Int.Bits.{bit_xor};
 ghost use Rattle.sbox.specs.Rule.{sbox_table};
@@ -140,7 +142,7 @@ fn constant_after(nk: usize, j: usize, x: u8) -> u8
 }
 
 // What a turn of the expansion makes: four words and the round key that they complete; then the next place, and the next Rcon.
-#[derive(Drop)]
+#[derive(Clone, Copy)]
 struct Made {
     next: Columns,
     row: Columns,

@@ -1,11 +1,13 @@
 //! The caller's lent list of key sets, for the two loads (document 01, "The card"; T-07): what follows sees no lent structs.
+#![tactic(auto)]
+
 ghost use Rattle.std.specs.Prelude.{◌≡◌, [], ◌∷◌, get_or};
 ghost use Rattle.key_set_list.specs.First.{blank_set, eight_of};
 
 use plaid_types::{Card, KeySet, KeySetId, Value};
 
 // The first eight key sets of a list, and how many it has. What stands past the count is not looked at.
-#[derive(Drop)]
+#[derive(Clone, Copy)]
 pub struct Eight {
     pub sets: [KeySet; Card::KEY_SETS],
     pub count: usize,

@@ -1,4 +1,6 @@
 //! The list of an initial command: SEQUENCE OF OCTET STRING of size 2.
+#![tactic(auto)]
+
 ghost use Rattle.std.specs.Prelude.{◌≡◌, ◌+◌, ◌*◌, ◌-◌, ◌≤◌, min, length, get_or};
 ghost use Rattle.octets.specs.Lists.{part};
 ghost use Rattle.list.specs.Ber.{unsigned, fitting, length_at, entry_at, no_head, head, walked, ended, listed, no_length, no_entry};
@@ -6,7 +8,7 @@ ghost use Rattle.list.specs.Laws.{largest};
 
 use plaid_types::KeySetId;
 
-#[derive(Drop)]
+#[derive(Clone, Copy)]
 pub struct Length {
     pub ok: bool,
     pub value: usize,
@@ -90,7 +92,7 @@ fn length_at(d: &[u8], at: usize) -> Length
     fitting(d, at, v, next)
 }
 
-#[derive(Drop)]
+#[derive(Clone, Copy)]
 pub struct Entry {
     pub ok: bool,
     pub id: KeySetId,
@@ -143,7 +145,7 @@ fn entry_at(d: &[u8], at: usize) -> Entry
 }
 
 // A place inside the caller's data.
-#[derive(Drop)]
+#[derive(Clone, Copy)]
 pub struct Cursor<'a> {
     pub list: &'a [u8],
     pub at: usize,
@@ -166,7 +168,7 @@ pub fn step_from(list: &[u8], at: usize) -> Entry
 }
 
 // The outer SEQUENCE: the form of its length, and where its first entry stands.
-#[derive(Drop)]
+#[derive(Clone, Copy)]
 pub struct Outer {
     pub ok: bool,
     pub definite: bool,
@@ -254,7 +256,7 @@ fn ended(d: &[u8], definite: bool, at: usize) -> bool
     d[at + 1] == 0
 }
 
-#[derive(Drop)]
+#[derive(Clone, Copy)]
 pub struct Listed {
     pub formed: bool,
     pub first: usize,

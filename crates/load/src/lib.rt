@@ -1,4 +1,6 @@
 //! The load of a card (document 01, "The card").
+#![tactic(auto)]
+
 ghost use Rattle.std.specs.Prelude.{◌≡◌, not, ◌||◌, [], map, ℕ, ◌+◌, ◌<◌, ◌≤◌, eqb, length, take, drop, get_or};
 ghost use Rattle.plaid_types.specs.Keys.{wide, bytes_of, of_length};
 ghost use Rattle.plaid_types.specs.Cards.{no_set, no_mode};
@@ -31,7 +33,7 @@ use plaid_types::{
 
 // The number of the fault, and a blank card, or by T-07 the card as it was; or 0, and the card.
 #[repr(C)]
-#[derive(Drop)]
+#[derive(Clone, Copy)]
 pub struct Loaded {
     pub number: u8,
     pub card: Card,
@@ -110,7 +112,7 @@ fn wrong_length(l: usize, key: Value) -> bool
 }
 
 // Whether one of the first n sets has a key of another length, or the shill handle.
-#[derive(Drop)]
+#[derive(Clone, Copy)]
 struct Wrong {
     key: bool,
     handle: bool,
@@ -330,7 +332,7 @@ pub fn set_slots(sets: [KeySet; Card::KEY_SETS], n: usize) -> [KeySetSlot; Card:
 }
 
 // The first n modes in their slots, and the largest reply size that one of them needs.
-#[derive(Drop)]
+#[derive(Clone, Copy)]
 struct ModeSlots {
     slots: [ModeSlot; Card::MODES],
     size: usize,

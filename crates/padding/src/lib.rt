@@ -1,3 +1,5 @@
+#![tactic(auto)]
+
 // Padding of a text to whole blocks of 16 bytes, and back: ISO/IEC 9797-1, padding method 2.
 ghost use Rattle.std.specs.Prelude.{◌≡◌, ◌≤◌, max, length};
 ghost use Rattle.padding.specs.Method2.{blocks_for, pad_answer, pad_buffer, text_end, unpadded};
@@ -9,7 +11,7 @@ pub fn blocks_for(t: usize) -> usize
     t / 16 + 1
 }
 
-#[derive(Drop)]
+#[derive(Clone, Copy)]
 pub enum Padded {
     // The padded text ends here.
     To(usize),
@@ -51,7 +53,7 @@ fn end_from(s: &[u8], start: usize) -> usize
     end
 }
 
-#[derive(Drop)]
+#[derive(Clone, Copy)]
 pub enum Unpadded {
     // The text is the first so many bytes.
     Text(usize),

@@ -1,4 +1,6 @@
 //! The C interface: structs by value and lent slices. A slice passes as a pointer and then a length.
+#![tactic(auto)]
+
 ghost use Rattle.std.specs.Prelude.{◌≡◌, length};
 ghost use Rattle.octets.specs.Lists.{over};
 ghost use Rattle.card.specs.Command.{outcome, answer_bytes};
@@ -10,7 +12,7 @@ ghost use Rattle.load.specs.Load.{loaded};
 ghost use Rattle.key_change.specs.KeyChange.{changed, sets_loaded};
 ghost use Rattle.conversion.specs.Conversion.{converted, output_after};
 ghost use Rattle.wiegand.specs.Wiegand as wiegand;
-ghost use Rattle.uuid.specs.Uuid as uuid;
+ghost use Rattle.uuids.specs.Uuid as uuid;
 ghost use Rattle.plaid.specs.Interface.{load_of, record_at};
 
 use conversion::Converted;
@@ -24,7 +26,7 @@ use reader_seal::Sealed;
 
 // What a load is given beside the key sets and the record area. What stands past the count is not looked at.
 #[repr(C)]
-#[derive(Drop)]
+#[derive(Clone, Copy)]
 pub struct Given {
     pub key_length: usize,
     pub modes: [Mode; Card::MODES],
@@ -105,7 +107,7 @@ pub extern "C" fn plaid_read_tries(card: Card) -> Tries
 
 // The reader's KeySetIDs in order of preference: the first so many.
 #[repr(C)]
-#[derive(Drop)]
+#[derive(Clone, Copy)]
 pub struct Ids {
     pub ids: [KeySetId; Reader::IDS],
     pub count: usize,
@@ -130,7 +132,7 @@ pub extern "C" fn plaid_open(key_length: usize, of: Ids, blocks: &[u8]) -> Opene
 
 // What Seal is given beside the payload.
 #[repr(C)]
-#[derive(Drop)]
+#[derive(Clone, Copy)]
 pub struct Sealing {
     pub key_length: usize,
     pub fa_key: Value,
@@ -164,7 +166,7 @@ pub extern "C" fn plaid_seal(of: Sealing, payload: &[u8], out: &mut [u8]) -> Sea
 
 // What Accept is given beside the response.
 #[repr(C)]
-#[derive(Drop)]
+#[derive(Clone, Copy)]
 pub struct Accepting {
     pub key_length: usize,
     pub keys_hash: Value,
@@ -191,7 +193,7 @@ pub extern "C" fn plaid_accept(of: Accepting, response: &[u8], work: &mut [u8]) 
 
 // A part of a buffer: its start, counted from 0, and its length.
 #[repr(C)]
-#[derive(Drop)]
+#[derive(Clone, Copy)]
 pub struct Part {
     pub start: usize,
     pub length: usize,
@@ -233,7 +235,7 @@ pub extern "C" fn plaid_uuid_record(text: &[u8], out: &mut [u8]) -> Converted
     ensures told { result ≡ converted (uuid.text_number text.now (length out.old)) (uuid.record_of text.now) }
     ensures bytes { out.new ≡ output_after (uuid.text_number text.now (length out.old)) (uuid.record_of text.now) out.old }
 {
-    uuid::to_record(text, out)
+    uuids::to_record(text, out)
 }
 
 // A record to its UUID's text.
@@ -242,5 +244,5 @@ pub extern "C" fn plaid_uuid_text(of: &[u8], out: &mut [u8]) -> Converted
     ensures told { result ≡ converted (uuid.record_number of.now (length out.old)) (uuid.text_of of.now) }
     ensures bytes { out.new ≡ output_after (uuid.record_number of.now (length out.old)) (uuid.text_of of.now) out.old }
 {
-    uuid::to_text(of, out)
+    uuids::to_text(of, out)
 }

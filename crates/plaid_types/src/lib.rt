@@ -1,4 +1,6 @@
 //! What a card holds, takes and answers (document 01, "The card").
+#![tactic(auto)]
+
 ghost use Rattle.std.specs.Prelude.{◌≡◌, cond, ◌+◌, ◌≤◌, length};
 ghost use Rattle.plaid_types.specs.Keys.{lawful, wide, value_of, no_value, str1_length};
 ghost use Rattle.plaid_types.specs.Tries.{is_interface, no_tries, one_more, tries_after};
@@ -6,16 +8,16 @@ ghost use Rattle.plaid_types.specs.Cards.{no_session, with_session, with_tries, 
 
 // The two kinds of identifier are types of their own: a key set number is never taken where a mode number belongs.
 #[repr(C)]
-#[derive(Drop)]
+#[derive(Clone, Copy)]
 pub struct KeySetId(pub u16);
 
 #[repr(C)]
-#[derive(Drop)]
+#[derive(Clone, Copy)]
 pub struct OpModeId(pub u16);
 
 // A key, RND or KeysHash as a caller gives or gets it (T-04): so many bytes, from the first on. It can hold 32.
 #[repr(C)]
-#[derive(Drop)]
+#[derive(Clone, Copy)]
 pub struct Value {
     pub length: u8,
     pub bytes: [u8; Value::MOST],
@@ -75,7 +77,7 @@ pub fn str1_length(l: usize) -> usize
 
 // A key set as a load gives it.
 #[repr(C)]
-#[derive(Drop)]
+#[derive(Clone, Copy)]
 pub struct KeySet {
     pub id: KeySetId,
     pub handle: u8,
@@ -84,7 +86,7 @@ pub struct KeySet {
 
 // A mode as a load gives it: its record is a part of the record area.
 #[repr(C)]
-#[derive(Drop)]
+#[derive(Clone, Copy)]
 pub struct Mode {
     pub id: OpModeId,
     pub start: usize,
@@ -93,7 +95,7 @@ pub struct Mode {
 
 // A slot of the card, empty or not. A card holds its keys in the first L of 32 bytes.
 #[repr(C)]
-#[derive(Drop)]
+#[derive(Clone, Copy)]
 pub struct KeySetSlot {
     pub held: bool,
     pub id: KeySetId,
@@ -102,7 +104,7 @@ pub struct KeySetSlot {
 }
 
 #[repr(C)]
-#[derive(Drop)]
+#[derive(Clone, Copy)]
 pub struct ModeSlot {
     pub held: bool,
     pub id: OpModeId,
@@ -112,7 +114,7 @@ pub struct ModeSlot {
 
 // No session, or an open one with KeySetID, RND1 and, by T-07, its FAKey.
 #[repr(C)]
-#[derive(Drop)]
+#[derive(Clone, Copy)]
 pub struct Session {
     pub opened: bool,
     pub id: KeySetId,
@@ -149,7 +151,7 @@ impl Session {
 }
 
 // The interface that a command call names (T-06), as a number.
-#[derive(Drop)]
+#[derive(Clone, Copy)]
 pub struct Interface;
 
 impl Interface {
@@ -171,7 +173,7 @@ impl Interface {
 
 // The failed tries of a card (T-06): refused final commands, counted for each interface.
 #[repr(C)]
-#[derive(Drop)]
+#[derive(Clone, Copy)]
 pub struct Tries {
     pub contact: u16,
     pub contactless: u16,
@@ -217,7 +219,7 @@ fn counted(one: bool, n: u16) -> u16
 }
 
 #[repr(C)]
-#[derive(Drop)]
+#[derive(Clone, Copy)]
 pub struct Card {
     pub sets: [KeySetSlot; Card::KEY_SETS],
     pub modes: [ModeSlot; Card::MODES],
@@ -263,7 +265,7 @@ impl Card {
 
 // What a command call answers beside the output bytes.
 #[repr(C)]
-#[derive(Drop)]
+#[derive(Clone, Copy)]
 pub struct Answer {
     pub number: u8,
     pub status: u16,
@@ -289,7 +291,7 @@ impl Answer {
 
 // What a command call hands back. The work sum stands beside the answer, so that nobody who sends an answer sends it along.
 #[repr(C)]
-#[derive(Drop)]
+#[derive(Clone, Copy)]
 pub struct Outcome {
     pub answer: Answer,
     pub sum: u32,
@@ -297,7 +299,7 @@ pub struct Outcome {
 }
 
 // The fresh bytes of a command call: F is as many as STR1 has, the others are the pad bytes.
-#[derive(Drop)]
+#[derive(Clone, Copy)]
 pub struct Fresh;
 
 impl Fresh {
@@ -305,7 +307,7 @@ impl Fresh {
 }
 
 // What a reader lists and seals, at most.
-#[derive(Drop)]
+#[derive(Clone, Copy)]
 pub struct Reader;
 
 impl Reader {

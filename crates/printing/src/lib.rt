@@ -1,5 +1,7 @@
 //! Text written over an output from a place on: words, numbers, bytes of an input as they are shown. Each function answers the place behind what it
 //! wrote.
+#![tactic(auto)]
+
 ghost use Rattle.std.specs.Prelude.{◌≡◌, ◌+◌, ◌*◌, ◌≤◌, length};
 ghost use Rattle.hexadecimal.specs.Hexadecimal.{digits_of};
 ghost use Rattle.printing.specs.Printing.{Written, decimal, is_plain, shown_byte, shown};

@@ -1,4 +1,6 @@
 //! The reader's Accept: a card's answer to a final command.
+#![tactic(auto)]
+
 ghost use Rattle.std.specs.Prelude.{◌≡◌, true, cond, ◌-◌, ◌≤◌, length, replicate};
 ghost use Rattle.octets.specs.Lists.{over};
 ghost use Rattle.key_expansion.specs.KeyLength.{is_key_length};
@@ -19,7 +21,7 @@ use plaid_types::{Answer, Value};
 
 // The number of the decline, and 0; or 0, and how many bytes of the work buffer are the record.
 #[repr(C)]
-#[derive(Drop)]
+#[derive(Clone, Copy)]
 pub struct Accepted {
     pub number: u8,
     pub length: usize,

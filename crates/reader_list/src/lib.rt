@@ -1,4 +1,6 @@
 //! The reader's List: the initial command for its key sets.
+#![tactic(auto)]
+
 ghost use Rattle.std.specs.Prelude.{◌≡◌, ◌+◌, ◌*◌, ◌≤◌, length};
 ghost use Rattle.octets.specs.Lists.{over};
 ghost use Rattle.list.specs.Encoding.{short_entries};
@@ -8,7 +10,7 @@ use plaid_types::{KeySetId, Reader};
 
 // What List hands back: the number, and the command's length.
 #[repr(C)]
-#[derive(Drop)]
+#[derive(Clone, Copy)]
 pub struct Written {
     pub number: u8,
     pub length: usize,

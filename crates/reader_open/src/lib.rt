@@ -1,4 +1,6 @@
 //! The reader's Open: the platform's decrypted blocks, one for each listed entry.
+#![tactic(auto)]
+
 ghost use Rattle.std.specs.Prelude.{◌≡◌, ◌+◌, ◌*◌, ◌≤◌, length, true};
 ghost use Rattle.key_expansion.specs.KeyLength.{is_key_length};
 ghost use Rattle.plaid_types.specs.Keys.{str1_length};
@@ -8,7 +10,7 @@ use plaid_types::{Answer, Fresh, KeySetId, Reader, Value};
 
 // What Open hands back: the number; and the winning entry's place and KeySetID, with DivData and RND1 of its block.
 #[repr(C)]
-#[derive(Drop)]
+#[derive(Clone, Copy)]
 pub struct Opened {
     pub number: u8,
     pub place: usize,

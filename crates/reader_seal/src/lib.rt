@@ -1,4 +1,6 @@
 //! The reader's Seal: the final command for a mode and a payload.
+#![tactic(auto)]
+
 ghost use Rattle.std.specs.Prelude.{◌≡◌, true, ◌++◌, ◌+◌, ◌*◌, ◌≤◌, length};
 ghost use Rattle.octets.specs.Lists.{over};
 ghost use Rattle.sbox.specs.Rule.{sbox_table};
@@ -22,7 +24,7 @@ use plaid_types::{OpModeId, Reader, Value};
 
 // The number of the decline, with nothing else; or 0, the length of the command and KeysHash.
 #[repr(C)]
-#[derive(Drop)]
+#[derive(Clone, Copy)]
 pub struct Sealed {
     pub number: u8,
     pub length: usize,

@@ -1,4 +1,6 @@
 //! The steps of a round of FIPS 197, sections 5.1 and 5.3, on a state of four words by value (T-03).
+#![tactic(auto)]
+
 ghost use Rattle.std.specs.Prelude.{◌≡◌, get_or};
 ghost use Rattle.octets.specs.Bytes.{block_xor};
 ghost use Rattle.sbox.specs.Rule.{sbox_table, inv_table};
@@ -8,7 +10,7 @@ ghost use Rattle.rounds.specs.Cipher.{sub_bytes, shift_rows, mix_columns, add_ro
 ghost use Rattle.rounds.specs.InvCipher.{inv_sub_bytes, inv_shift_rows, inv_mix_columns, inv_round, inv_last_round};
 
 // The columns of a state, from the first. The state that they mean is `state_of`.
-#[derive(Drop)]
+#[derive(Clone, Copy)]
 pub struct Columns {
     pub c0: u32,
     pub c1: u32,

@@ -1,3 +1,5 @@
+#![tactic(auto)]
+
 // Reads NIST's response files (CAVS, `.rsp`). Such a file is lines that end in LF or in CR and LF: comments (#), sections
 // ([ENCRYPT]) and fields (KEY = 00ff..). A record is a run of fields that an empty line ends.
 //

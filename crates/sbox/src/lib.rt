@@ -1,4 +1,6 @@
 //! The byte table of FIPS 197, section 5.1.1, and its inverse, section 5.3.2.
+#![tactic(auto)]
+
 ghost use Rattle.std.specs.Prelude.{◌≡◌};
 ghost use Rattle.sbox.specs.Rule.{sbox_table, inv_table};
 

@@ -1,4 +1,6 @@
 //! SHA-256 of FIPS 180-4: the hash of a message.
+#![tactic(auto)]
+
 ghost use Rattle.std.specs.Prelude.{◌≡◌, ◌<◌, get_or};
 ghost use Rattle.sha_words.specs.Words.{word_bytes};
 ghost use Rattle.sha_padding.specs.Parsing.{blocks};
@@ -37,7 +39,7 @@ pub fn to_bytes(h: [u32; 8]) -> [u8; 32]
 }
 
 // What hashing a message gives: the last hash value, and the count of blocks.
-#[derive(Drop)]
+#[derive(Clone, Copy)]
 pub struct Hashed {
     pub state: [u32; 8],
     pub blocks: usize,

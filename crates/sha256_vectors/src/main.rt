@@ -1,8 +1,10 @@
+#![tactic(auto)]
+
 // Runs NIST's response files for SHA-256 and compares each digest: short messages, long messages and the Monte Carlo test.
 // A file that cannot be read, and a record that cannot, each gives a line of its own, as a digest that differs does.
 
 // What the records of a file gave so far.
-#[derive(Drop)]
+#[derive(Clone, Copy)]
 struct Tally {
     hashed: u64,
     differ: u64,
@@ -10,7 +12,7 @@ struct Tally {
 }
 
 // What one record gave.
-#[derive(Drop)]
+#[derive(Clone, Copy)]
 enum Ran {
     Agrees,
     Differs,

@@ -1,4 +1,6 @@
 //! FIPS 180-4, section 6.2.2: the schedule and the 64 turns of one block.
+#![tactic(auto)]
+
 ghost use Rattle.std.specs.Prelude.{◌≡◌, ◌<◌, take};
 ghost use Rattle.sha_words.specs.Words.{word};
 ghost use Rattle.sha_padding.specs.Parsing.{block_words};

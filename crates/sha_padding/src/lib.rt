@@ -1,4 +1,6 @@
 //! FIPS 180-4: the blocks of the padded message.
+#![tactic(auto)]
+
 ghost use Rattle.std.specs.Prelude.{◌≡◌, ◌+◌, ◌*◌, ◌/◌, ◌≤◌, length, get_or, replicate};
 ghost use Rattle.octets.specs.Lists.{over};
 ghost use Rattle.octets.specs.Filled.{Filled};

@@ -1,4 +1,6 @@
 //! FIPS 180-4: sums and rotations of 32-bit words, and the six functions of SHA-256.
+#![tactic(auto)]
+
 ghost use Rattle.std.specs.Prelude.{◌≡◌, ◌<◌};
 ghost use Rattle.sha_words.specs.Words.{plus, rotr};
 ghost use Rattle.sha_words.specs.Functions.{ch, maj, upper_sigma0, upper_sigma1, sigma0, sigma1};

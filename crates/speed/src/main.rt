@@ -1,3 +1,5 @@
+#![tactic(auto)]
+
 // Does an operation a given number of times, each time on the last one's result, and writes the last result in hexadecimal.
 // The arguments are pairs: the operation's name and the number of times. `bench/run` counts this program's instructions.
 //
@@ -10,7 +12,7 @@ ghost use Rattle.std.specs.Prelude.{◌≡◌, true, ◌<◌, ◌≤◌, ◌^◌
 ghost use Rattle.key_expansion.specs.KeyLength.{is_key_length};
 
 // What is done under the round keys of a key, once they are made.
-#[derive(Drop)]
+#[derive(Clone, Copy)]
 enum Operation {
     Encipher,
     Decipher,

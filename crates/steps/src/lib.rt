@@ -1,4 +1,6 @@
 //! Steps of a command: each function makes one, and hands back its result, its count and the work sum together.
+#![tactic(auto)]
+
 ghost use Rattle.std.specs.Prelude.{◌≡◌, true, [], ◌∷◌, ◌/◌, length};
 ghost use Rattle.work.specs.Steps.{comparison, expansion, hash_block, mixed_all, sum_from, counted};
 ghost use Rattle.sbox.specs.Rule.{sbox_table};
@@ -21,7 +23,7 @@ ghost use Rattle.steps.specs.Made.{
 
 use plaid_types::{KeySetId, OpModeId};
 
-#[derive(Drop)]
+#[derive(Clone, Copy)]
 pub struct Expanded {
     pub rows: [[u8; 16]; 15],
     pub count: usize,
@@ -59,7 +61,7 @@ pub fn expand(table: &[u8; 256], key: &[u8], sum: u32) -> Expanded
     together(rows, 1, c)
 }
 
-#[derive(Drop)]
+#[derive(Clone, Copy)]
 pub struct Hashing {
     pub digest: [u8; 32],
     pub count: usize,
@@ -89,7 +91,7 @@ pub fn hash(m: &[u8], sum: u32) -> Hashing
     }
 }
 
-#[derive(Drop)]
+#[derive(Clone, Copy)]
 pub struct Compared {
     pub hit: bool,
     pub count: usize,

@@ -1,4 +1,6 @@
 //! Wiegand numbers: text to record and record to text (document 02, T-05).
+#![tactic(auto)]
+
 ghost use Rattle.std.specs.Prelude.{◌≡◌, cond, not, map, ℕ, ◌≤◌, length, get_or, drop};
 ghost use Rattle.conversion.specs.Conversion.{each, converted, output_after};
 ghost use Rattle.wiegand.specs.Wiegand.{is_bit, bit_of, text_bits, ones, parity_right, with_zeros, character, record_of, text_of, text_number, record_number};

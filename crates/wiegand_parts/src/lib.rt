@@ -1,4 +1,6 @@
 //! Facility and number of a Wiegand number, from its record (document 02, T-05).
+#![tactic(auto)]
+
 ghost use Rattle.std.specs.Prelude.{◌≡◌, ◌+◌, ◌*◌, ◌/◌, ◌%◌};
 ghost use Rattle.wiegand_parts.specs.WiegandParts.{facility_of, number_of};
 

@@ -1,3 +1,5 @@
+#![tactic(auto)]
+
 // The work sum over a command's steps.
 ghost use Rattle.std.specs.Prelude.{◌≡◌, ◌/◌, ◌%◌, ◌^◌, ◌<◌, length, drop};
 ghost use mathlib.Core.List.{flatten};
@@ -75,7 +77,7 @@ pub fn mix_step(s: u32, kind: u8, key: &[u8], input: &[u8], output: &[u8]) -> u3
 }
 
 // What mixing a list does to any sum: weight times the sum, and rest. For a key, which every step of a run shows.
-#[derive(Drop)]
+#[derive(Clone, Copy)]
 pub struct Prepared {
     pub weight: u32,
     pub rest: u32,

@@ -1,12 +1,12 @@
--- `of_uuid_record` meets its contract, by what `uuid::to_text` ensures. Assumes nothing.
+-- `of_uuid_record` meets its contract, by what `uuids::to_text` ensures. Assumes nothing.
 use mathlib.Core.Path.{◌≡◌, sym, ap, ◌∙◌}
 use mathlib.Core.List.{List, ◌++◌}
 use Prim.Native.Nat.{ℕ, ◌≤◌}
 use native.Mathlib.Omega.{arith}
 use lib.ListN.{length, replicate}
 use mathlib.Core.Bool.{true}
-use Rattle.uuid.specs.Uuid.{record_number, text_of}
-use Rattle.uuid.specs.Groups.{length-text}
+use Rattle.uuids.specs.Uuid.{record_number, text_of}
+use Rattle.uuids.specs.Groups.{length-text}
 use Rattle.printing.specs.Printing.{ascii}
 use Rattle.door_answers.specs.Answer.{of_uuid_record}
 use Rattle.printing.specs.Laws.{written_as, written_next}

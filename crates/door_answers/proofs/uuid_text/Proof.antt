@@ -1,4 +1,4 @@
--- `uuid_text` meets its contract, by what `uuid::to_record` ensures. Assumes nothing.
+-- `uuid_text` meets its contract, by what `uuids::to_record` ensures. Assumes nothing.
 use mathlib.Core.Path.{◌≡◌, sym, ap, ◌∙◌}
 use mathlib.Core.List.{List, ◌++◌}
 use Prim.Native.Nat.{ℕ, ◌≤◌}
@@ -6,8 +6,8 @@ use native.Mathlib.Omega.{arith}
 use lib.ListN.{length, replicate}
 use mathlib.Core.Bool.{false}
 use Rattle.hexadecimal.specs.Hexadecimal.{digits_of}
-use Rattle.uuid.specs.Uuid.{text_number, record_of}
-use Rattle.uuid.specs.Groups.{length-record}
+use Rattle.uuids.specs.Uuid.{text_number, record_of}
+use Rattle.uuids.specs.Groups.{length-record}
 use Rattle.printing.specs.Printing.{ascii}
 use Rattle.door_answers.specs.Answer.{uuid_text}
 use Rattle.printing.specs.Laws.{written_as, written_next}

@@ -1,0 +1,13 @@
+-- `column::turned_twice` meets its contract: rotation by two bytes. Assumes nothing.
+use mathlib.Core.Path.{ap, ◌∙◌}
+use Prim.Native.Nat.{ℕ, ◌+◌, ◌*◌, ◌/◌, ◌%◌}
+use native.Mathlib.Omega.{arith}
+use Rattle.column.specs.Word.{byte_at}
+use Rattle.column.specs.Laws.{byte-lt, eta, turn}
+use Rattle.std.proofs.Common.{rules}
+use Rattle.column.proofs.turned_twice.Goals as goal
+
+pub returns : goal.returns
+returns c =
+    let t = c.args.t in
+    ap (λ (x : ℕ). x / 65536 + x % 65536 * 65536) (eta t (search rules)) ∙ turn (byte_at t) (byte-lt t) 2 (omega arith)

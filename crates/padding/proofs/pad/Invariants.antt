@@ -1,0 +1,19 @@
+-- `pad` meets its contract. What the loop has left to write, of the buffer now, is what it had to write (Buffer). Assumes nothing.
+use Prim.Native.Nat.{◌+◌, ◌-◌, ◌*◌, ◌≤◌, ◌<◌}
+use mathlib.Core.Path.{◌≡◌, refl, sym, ap, ◌∙◌}
+use native.Mathlib.Omega.{arith}
+use lib.ListN.{length, length-set, replicate, set}
+use Rattle.octets.specs.Lists.{over}
+use Rattle.padding.specs.Method2.{blocks_for}
+use Rattle.padding.specs.declared.Padded.TheVariants.{To}
+use Rattle.padding.proofs.Buffer.{zero_turn, zero-done, answer-fits, buffer-fits, answer-short, buffer-short}
+use Rattle.padding.proofs.pad.Given as goal
+
+abbrev pub invariant-loop-i : goal.invariant-loop-i
+invariant-loop-i l =
+    (length l.buf ≡ length l.initial.buf)
+    × (l.end ≤ length l.initial.buf)
+    × (over l.buf l.i (replicate (l.end - l.i) 0) ≡ over l.initial.buf l.initial.i (replicate (l.end - l.initial.i) 0))
+
+abbrev pub decreases-loop-i : goal.decreases-loop-i
+decreases-loop-i l = l.end - l.i
