@@ -1,12 +1,9 @@
 -- `sha_block::all_turns` meets its contract. The loop's invariant: v is what i turns made of h. Assumes nothing.
 -- one turn more
-use mathlib.Core.Path.{◌≡◌, refl, sym, ap, ap₂, ◌∙◌}
-use mathlib.Core.List.{List}
-use Prim.Native.Nat.{ℕ, suc, ◌+◌, ◌-◌, ◌%◌, ◌≤◌}
-use native.Mathlib.Omega.{arith}
-use lib.ListN.{get_or}
+use mathlib.Core.Path.{◌≡◌}
+use Prim.Native.Nat.{◌-◌, ◌%◌, ◌≤◌}
 use Rattle.sha_block.specs.Constants.{constants}
-use Rattle.sha_block.specs.Hash.{turn, turns}
+use Rattle.sha_block.specs.Hash.{turns}
 use Rattle.sha_block.proofs.all_turns.Given as goal
 
 abbrev pub invariant-loop-i : goal.invariant-loop-i

@@ -6,7 +6,6 @@ use lib.ListN.{get_or}
 use Rattle.octets.specs.Lists.{cons}
 use Rattle.sha_words.specs.Words.{plus}
 use Rattle.sha_block.specs.Hash.{turns, sums, compressed}
-use Rattle.std.proofs.Common.{rules}
 use Rattle.sha_block.proofs.compress.Goals as goal
 
 module _ (v h : List ℕ) where

@@ -7,12 +7,11 @@ use native.Mathlib.Nat.{add-suc}
 use native.Mathlib.Omega.{arith}
 use native.Mathlib.Numerals.{add-one}
 use lib.Dec.{lit<}
-use lib.ListN.{length, get_or, take, set, length-set}
+use lib.ListN.{get_or, take, set, length-set}
 use lib.Seq.{take-suc-set, get_or-take, take_all}
 use mir.Syntax.{w64}
 use mir.Val.{Fits}
 use Rattle.sha_words.specs.Functions.{sigma0, sigma1}
-use Rattle.sha_padding.specs.Parsing.{block_words}
 use Rattle.sha_block.specs.Hash.{next_word, schedule}
 use Rattle.sha_block.proofs.Sums.{summed}
 use Rattle.sha_block.proofs.full_schedule.Invariants.{Grown}

@@ -1,20 +1,11 @@
 -- `sha_block::full_schedule` meets its contract. The loop's invariant: the first n + 16 words are the schedule's. Assumes nothing.
 -- the first n + 16 of the 64 words
-use mathlib.Core.Path.{◌≡◌, refl, sym, ap, ap₂, ◌∙◌}
-use mathlib.Core.List.{List, [], ◌∷◌, ◌++◌}
-use Prim.Native.Nat.{ℕ, suc, ◌+◌, ◌-◌, ◌*◌, ◌%◌, ◌<◌, ◌≤◌}
-use native.Mathlib.Nat.{add-suc}
-use native.Mathlib.Omega.{arith}
-use native.Mathlib.Numerals.{add-one}
-use lib.Dec.{lit<}
-use lib.ListN.{length, get_or, take, set, length-set}
-use lib.Seq.{take-suc-set, get_or-take, take_all}
-use mir.Syntax.{w64}
-use mir.Val.{Fits}
-use Rattle.sha_words.specs.Functions.{sigma0, sigma1}
+use mathlib.Core.Path.{◌≡◌}
+use mathlib.Core.List.{List}
+use Prim.Native.Nat.{ℕ, ◌+◌, ◌-◌, ◌%◌, ◌≤◌}
+use lib.ListN.{length, take}
 use Rattle.sha_padding.specs.Parsing.{block_words}
-use Rattle.sha_block.specs.Hash.{next_word, schedule}
-use Rattle.sha_block.proofs.Sums.{summed}
+use Rattle.sha_block.specs.Hash.{schedule}
 use Rattle.sha_block.proofs.full_schedule.Given as goal
 
 pub record Grown (m w : List ℕ) (n : ℕ) : Type 0 where

@@ -1,11 +1,10 @@
 -- `sha_block::load` meets its contract. The loop's invariant: the first i places hold the block's words. Assumes nothing.
 use mathlib.Core.Path.{◌≡◌, refl, ◌∙◌}
-use Prim.Native.Nat.{◌-◌, ◌≤◌}
 use native.Mathlib.Omega.{arith}
 use lib.ListN.{length, take}
 use lib.Seq.{get_or-take, length-take-le}
 use Rattle.octets.specs.Lists.{tabled}
-use Rattle.octets.specs.Filled.{Filled, filled_none, filled_more}
+use Rattle.octets.specs.Filled.{filled_none, filled_more}
 use Rattle.sha_padding.specs.Parsing.{block_word, block_words}
 use Rattle.std.proofs.Common.{rules}
 use Rattle.sha_block.proofs.load.Goals as goal

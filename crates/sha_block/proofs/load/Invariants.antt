@@ -1,12 +1,9 @@
 -- `sha_block::load` meets its contract. The loop's invariant: the first i places hold the block's words. Assumes nothing.
-use mathlib.Core.Path.{◌≡◌, refl, ◌∙◌}
+use mathlib.Core.Path.{◌≡◌}
 use Prim.Native.Nat.{◌-◌, ◌≤◌}
-use native.Mathlib.Omega.{arith}
-use lib.ListN.{length, take}
-use lib.Seq.{get_or-take, length-take-le}
-use Rattle.octets.specs.Lists.{tabled}
-use Rattle.octets.specs.Filled.{Filled, filled_none, filled_more}
-use Rattle.sha_padding.specs.Parsing.{block_word, block_words}
+use lib.ListN.{length}
+use Rattle.octets.specs.Filled.{Filled}
+use Rattle.sha_padding.specs.Parsing.{block_word}
 use Rattle.sha_block.proofs.load.Given as goal
 
 abbrev pub invariant-loop-i : goal.invariant-loop-i

@@ -1,7 +1,6 @@
 -- `sha_block::next_word` meets its contract: each call's result goes into the next sum. Assumes nothing.
 use mathlib.Core.Path.{refl}
 use Rattle.sha_block.proofs.Sums.{summed}
-use Rattle.std.proofs.Common.{rules}
 use Rattle.sha_block.proofs.next_word.Goals as goal
 
 pub returns : goal.returns

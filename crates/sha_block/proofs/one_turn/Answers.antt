@@ -5,7 +5,6 @@ use Prim.Native.Nat.{ℕ}
 use lib.ListN.{get_or}
 use Rattle.sha_block.specs.Hash.{t1, t2, turn}
 use Rattle.sha_block.proofs.Sums.{summed}
-use Rattle.std.proofs.Common.{rules}
 use Rattle.sha_block.proofs.one_turn.Goals as goal
 
 pub returns : goal.returns

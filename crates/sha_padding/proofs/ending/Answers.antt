@@ -9,7 +9,6 @@ use lib.ListN.{length, get_or, set, replicate}
 use Rattle.octets.specs.Filled.{Filled}
 use Rattle.sha_padding.specs.PaddingLaws.{blocks-count}
 use Rattle.sha_padding.proofs.Blocks.{Begun, begun, marked, block-open, block_last}
-use Rattle.std.proofs.Common.{rules}
 use Rattle.sha_padding.proofs.ending.Goals as goal
 
 ended : (m : List ℕ) (at : ℕ) {b : List ℕ} → Filled (λ j. get_or m (at + j) 0) (replicate 64 0) b (length m % 64) → at ≡ 64 * (length m / 64) →

@@ -1,9 +1,7 @@
 -- `sha_padding::front` meets its contract. The loop's invariant: the first j bytes are the message's, from `at` on. Assumes nothing.
 use mathlib.Core.Path.{◌≡◌, refl}
-use Prim.Native.Nat.{◌+◌, ◌-◌, ◌≤◌}
 use native.Mathlib.Omega.{arith}
-use lib.ListN.{get_or, replicate}
-use Rattle.octets.specs.Filled.{Filled, filled_none, filled_more}
+use Rattle.octets.specs.Filled.{filled_none, filled_more}
 use Rattle.std.proofs.Common.{rules}
 use Rattle.sha_padding.proofs.front.Goals as goal
 

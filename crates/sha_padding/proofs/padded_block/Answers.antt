@@ -6,7 +6,6 @@ use Rattle.octets.specs.Filled.{filled_none}
 use Rattle.sha_padding.specs.Parsing.{block_at}
 use Rattle.sha_padding.specs.PaddingLaws.{blocks-count}
 use Rattle.sha_padding.proofs.Blocks.{begun, block_in, block_last, block-past}
-use Rattle.std.proofs.Common.{rules}
 use Rattle.sha_padding.proofs.padded_block.Goals as goal
 
 pub returns-then-i-n : goal.returns-then-i-n

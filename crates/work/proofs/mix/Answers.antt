@@ -1,7 +1,6 @@
 -- `mix` meets its contract: the code is the definition, opened. Assumes nothing.
 use mathlib.Core.Path.{refl}
 use Rattle.work.specs.Steps.{mixed}
-use Rattle.std.proofs.Common.{rules}
 use Rattle.work.proofs.mix.Goals as goal
 
 pub returns : goal.returns

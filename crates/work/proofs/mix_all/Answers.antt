@@ -1,8 +1,6 @@
 -- `mix_all` meets its contract. The loop's law is that of Turns. Assumes nothing.
-use Prim.Native.Nat.{◌≤◌, ◌-◌}
-use mathlib.Core.Path.{◌≡◌, refl, ap, ◌∙◌}
+use mathlib.Core.Path.{refl, ap, ◌∙◌}
 use native.Mathlib.Omega.{arith}
-use lib.ListN.{length, drop}
 use Rattle.work.specs.Steps.{mixed_all}
 use Rattle.work.proofs.Turns.{blocks-turn}
 use Rattle.std.proofs.Common.{rules}

@@ -1,10 +1,8 @@
 -- `mix_all` meets its contract. The loop's law is that of Turns. Assumes nothing.
 use Prim.Native.Nat.{◌≤◌, ◌-◌}
-use mathlib.Core.Path.{◌≡◌, refl, ap, ◌∙◌}
-use native.Mathlib.Omega.{arith}
+use mathlib.Core.Path.{◌≡◌}
 use lib.ListN.{length, drop}
 use Rattle.work.specs.Steps.{mixed_all}
-use Rattle.work.proofs.Turns.{blocks-turn}
 use Rattle.work.proofs.mix_all.Given as goal
 
 abbrev pub invariant-loop-i : goal.invariant-loop-i

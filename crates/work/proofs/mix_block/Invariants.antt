@@ -1,14 +1,10 @@
 -- `mix_block` meets its contract: the weights are those of Weights, and the loop takes the bytes in by them. Assumes nothing.
-use Prim.Native.Nat.{ℕ, suc, ◌+◌, ◌-◌, ◌*◌, ◌%◌, ◌^◌, ◌<◌, ◌≤◌}
-use mathlib.Core.Path.{◌≡◌, refl, ap, ◌∙◌}
-use mathlib.Core.List.{List, []}
-use native.Mathlib.Omega.{arith}
-use mir.Syntax.{w8, w32}
-use mir.Val.{Fits}
-use lib.ListN.{length, drop, get_or, drop_of_length-le}
-use Rattle.octets.specs.Lists.{table, get_or-table}
-use Rattle.work.specs.Weights.{weight, weighed, ones, mixed-weighed}
-use Rattle.work.proofs.Turns.{weights-turn, weighed-small}
+use Prim.Native.Nat.{ℕ, ◌+◌, ◌-◌, ◌*◌, ◌^◌, ◌≤◌}
+use mathlib.Core.Path.{◌≡◌}
+use mathlib.Core.List.{List}
+use lib.ListN.{drop}
+use Rattle.octets.specs.Lists.{table}
+use Rattle.work.specs.Weights.{weight, weighed}
 use Rattle.work.proofs.mix_block.Given as goal
 
 abbrev pub sixteen : List ℕ

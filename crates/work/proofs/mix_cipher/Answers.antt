@@ -3,7 +3,6 @@ use Prim.Native.Nat.{ℕ}
 use mathlib.Core.Path.{ap, ◌∙◌}
 use Rattle.work.specs.Steps.{mixed_all}
 use Rattle.work.specs.Weights.{mixed_prepared}
-use Rattle.std.proofs.Common.{rules}
 use Rattle.work.proofs.mix_cipher.Goals as goal
 
 pub returns : goal.returns

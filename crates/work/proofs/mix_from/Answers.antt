@@ -1,10 +1,6 @@
 -- `mix_from` meets its contract. The loop's law is that of Turns. Assumes nothing.
-use Prim.Native.Nat.{◌-◌}
-use mathlib.Core.Path.{◌≡◌, refl}
-use lib.ListN.{length, drop}
-use Rattle.work.specs.Steps.{mixed_all}
+use mathlib.Core.Path.{refl}
 use Rattle.work.proofs.Turns.{bytes-turn, bytes-done}
-use Rattle.std.proofs.Common.{rules}
 use Rattle.work.proofs.mix_from.Goals as goal
 
 pub loop-i-init : goal.loop-i-init

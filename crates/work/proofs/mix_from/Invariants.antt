@@ -1,9 +1,8 @@
 -- `mix_from` meets its contract. The loop's law is that of Turns. Assumes nothing.
 use Prim.Native.Nat.{◌-◌}
-use mathlib.Core.Path.{◌≡◌, refl}
+use mathlib.Core.Path.{◌≡◌}
 use lib.ListN.{length, drop}
 use Rattle.work.specs.Steps.{mixed_all}
-use Rattle.work.proofs.Turns.{bytes-turn, bytes-done}
 use Rattle.work.proofs.mix_from.Given as goal
 
 abbrev pub invariant-loop-i : goal.invariant-loop-i

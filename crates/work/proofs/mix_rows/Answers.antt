@@ -1,10 +1,6 @@
 -- `mix_rows` meets its contract. The loop's law is that of Turns. Assumes nothing.
-use Prim.Native.Nat.{◌≤◌, ◌-◌}
-use mathlib.Core.Path.{◌≡◌, refl}
-use mathlib.Core.List.{flatten}
+use mathlib.Core.Path.{refl}
 use native.Mathlib.Omega.{arith}
-use lib.ListN.{length, drop}
-use Rattle.work.specs.Steps.{mixed_all}
 use Rattle.work.proofs.Turns.{rows-turn, rows-done}
 use Rattle.std.proofs.Common.{rules}
 use Rattle.work.proofs.mix_rows.Goals as goal

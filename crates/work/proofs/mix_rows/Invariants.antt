@@ -1,11 +1,9 @@
 -- `mix_rows` meets its contract. The loop's law is that of Turns. Assumes nothing.
 use Prim.Native.Nat.{◌≤◌, ◌-◌}
-use mathlib.Core.Path.{◌≡◌, refl}
+use mathlib.Core.Path.{◌≡◌}
 use mathlib.Core.List.{flatten}
-use native.Mathlib.Omega.{arith}
 use lib.ListN.{length, drop}
 use Rattle.work.specs.Steps.{mixed_all}
-use Rattle.work.proofs.Turns.{rows-turn, rows-done}
 use Rattle.work.proofs.mix_rows.Given as goal
 
 abbrev pub invariant-loop-row : goal.invariant-loop-row

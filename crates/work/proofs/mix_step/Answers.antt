@@ -1,6 +1,5 @@
 -- `mix_step` meets its contract: the sum of the parts one after the other is that of the whole. Assumes nothing.
 use Rattle.work.specs.Laws.{mixed-step}
-use Rattle.std.proofs.Common.{rules}
 use Rattle.work.proofs.mix_step.Goals as goal
 
 pub returns : goal.returns

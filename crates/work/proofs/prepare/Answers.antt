@@ -2,7 +2,6 @@
 use Prim.Native.Nat.{ℕ}
 use mathlib.Core.Path.{ap₂}
 use Rattle.work.specs.declared.Prepared.{Prepared}
-use Rattle.std.proofs.Common.{rules}
 use Rattle.work.proofs.prepare.Goals as goal
 
 abbrev both : ℕ → ℕ → Prepared

@@ -1,9 +1,7 @@
 -- `weight_of` meets its contract: after k turns w is the weight that k bytes give. Assumes nothing.
-use Prim.Native.Nat.{ℕ, ◌*◌, ◌%◌, ◌^◌, ◌-◌, ◌≤◌}
-use mathlib.Core.Path.{◌≡◌, refl, sym, ap, ◌∙◌}
-use native.Mathlib.Numerals.{add-one}
-use native.Mathlib.Omega.{arith}
-use Rattle.work.specs.Weights.{weight, up}
+use Prim.Native.Nat.{◌-◌, ◌≤◌}
+use mathlib.Core.Path.{◌≡◌}
+use Rattle.work.specs.Weights.{weight}
 use Rattle.work.proofs.weight_of.Given as goal
 
 abbrev pub invariant-loop-k : goal.invariant-loop-k
