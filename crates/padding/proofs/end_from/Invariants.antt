@@ -1,12 +1,8 @@
 -- `end_from` meets its contract. The loop keeps the end of the bytes passed, or where it started. Assumes nothing.
 use Prim.Native.Nat.{◌≤◌, ◌-◌, max}
-use mathlib.Core.Path.{◌≡◌, ap, ◌∙◌}
-use mathlib.Core.Logic.{⊎_elim}
-use native.Mathlib.Numerals.{add-one}
-use native.Mathlib.Omega.{arith}
+use mathlib.Core.Path.{◌≡◌}
 use lib.ListN.{length}
 use Rattle.padding.specs.Method2.{text_end}
-use Rattle.padding.specs.Laws.{text_end-le, end-zero, end-moves}
 use Rattle.padding.proofs.end_from.Given as goal
 
 abbrev pub invariant-loop-i : goal.invariant-loop-i

@@ -1,12 +1,8 @@
 -- `pad` meets its contract. What the loop has left to write, of the buffer now, is what it had to write (Buffer). Assumes nothing.
-use Prim.Native.Nat.{◌+◌, ◌-◌, ◌*◌, ◌≤◌, ◌<◌}
-use mathlib.Core.Path.{◌≡◌, refl, sym, ap, ◌∙◌}
-use native.Mathlib.Omega.{arith}
-use lib.ListN.{length, length-set, replicate, set}
+use Prim.Native.Nat.{◌-◌, ◌≤◌}
+use mathlib.Core.Path.{◌≡◌}
+use lib.ListN.{length, replicate}
 use Rattle.octets.specs.Lists.{over}
-use Rattle.padding.specs.Method2.{blocks_for}
-use Rattle.padding.specs.declared.Padded.TheVariants.{To}
-use Rattle.padding.proofs.Buffer.{zero_turn, zero-done, answer-fits, buffer-fits, answer-short, buffer-short}
 use Rattle.padding.proofs.pad.Given as goal
 
 abbrev pub invariant-loop-i : goal.invariant-loop-i

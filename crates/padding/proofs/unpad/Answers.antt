@@ -4,7 +4,6 @@ use mathlib.Core.Path.{◌≡◌, ap, sym, ◌∙◌}
 use native.Mathlib.Omega.{arith}
 use lib.ListN.{length, get_or}
 use Rattle.padding.specs.Laws.{text_end-le, seen-text, seen_none}
-use Rattle.std.proofs.Common.{rules}
 use Rattle.padding.proofs.unpad.Goals as goal
 
 pub returns-then-n-ne0 : goal.returns-then-n-ne0
