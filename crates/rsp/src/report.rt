@@ -1,47 +1,57 @@
 // Reading a file whole, and writing what a run found to standard output.
 use crate::{NONE, line_end};
-use libc::STDOUT_FILENO;
+use std::io::Read;
+use std::rt::Files;
+use std::{fs, io, str};
 
-// Reads the file `name` into `buf` and answers its length. NONE where it cannot be opened, or where `buf` is not longer than it.
-pub fn load(name: &[u8], buf: &mut [u8]) -> usize {
-    let fd = os::open_read(name);
-    if fd < 0 {
-        return NONE;
+// Reads the file `name` into `buf` and answers its length. NONE where it cannot be opened or read, or where `buf` is not longer than it.
+pub fn load(rt: &impl Files, name: &[u8], buf: &mut [u8]) -> usize {
+    match read_file(rt, name, buf) {
+        Ok(n) if n < buf.len() => n,
+        _ => NONE,
     }
-    let n = io::read_full(fd, buf);
-    libc::close(fd);
-    if n < buf.len() { n } else { NONE }
 }
 
-pub fn say(text: &[u8]) {
-    io::write_all(STDOUT_FILENO, text);
+// Reads the file `name` until it ends or `buf` is full, and answers how many bytes it put at the start of `buf`.
+fn read_file(rt: &impl Files, name: &[u8], buf: &mut [u8]) -> io::Result<usize> {
+    let Ok(path) = str::from_utf8(name) else {
+        return Err(io::Error::from(io::ErrorKind::InvalidFilename));
+    };
+    let mut file = fs::open(rt, path)?;
+    let mut done = 0;
+    while done < buf.len() {
+        let n = file.read(&mut buf[done..])?;
+        if n == 0 {
+            break;
+        }
+        done += n;
+    }
+    Ok(done)
 }
 
-pub fn say_number(n: u64) {
-    io::print_decimal(STDOUT_FILENO, n);
+pub fn say(rt: &impl Print, text: &[u8]) -> io::Result<()> {
+    rt.write_all(text)
+}
+
+pub fn say_number(rt: &impl Print, n: u64) -> io::Result<()> {
+    rt.print(n)
 }
 
 // Writes the bytes in hexadecimal.
-pub fn say_bytes(b: &[u8]) {
-    let mut i = 0;
-    while i < b.len() {
-        io::print_hex(STDOUT_FILENO, wide(b[i]), 2);
-        i += 1;
+pub fn say_bytes(rt: &impl Print, bytes: &[u8]) -> io::Result<()> {
+    for b in bytes {
+        print!(rt; "{b:02x}")?;
     }
-}
-
-fn wide(b: u8) -> u64 {
-    b as u64
+    Ok(())
 }
 
 // Writes what the line has from place i on, without its end.
-pub fn say_line(s: &[u8], i: usize) {
+pub fn say_line(rt: &impl Print, s: &[u8], i: usize) -> io::Result<()> {
     let e = line_end(s, i);
-    if i < e {
-        if e <= s.len() {
-            say(&s[i..e]);
-        }
+    if i < e && e <= s.len() {
+        say(rt, &s[i..e])?;
     }
+    Ok(())
 }
 
 // The next number of a count, which stops at the largest.
