@@ -11,8 +11,8 @@
 use Rattle.std.specs.Prelude.{◌≡◌, refl, ℕ, zero, List, [], ◌∷◌, T as Holds}
 use Rattle.std.proofs.Common.{sym, ap, subst, ◌∙◌}
 use seplogic.Ra.Ura.{Ura}
-use seplogic.Ra.TreeShare.{full_share}
-use mir.Syntax.{Name, Ty, Fn, Place, place, Opd as Operand, copy, Body, seq, call, return}
+use base.Fraction.{full_share}
+use mir.Syntax.{Callee, Ty, Fn, Place, place, Opd as Operand, copy, Body, seq, call, return}
 use mir.Val.{Val, WT, has_ty}
 use base.Logic.{SProp, ent, sep, emp, via, emp∗, comm∗, fst∗, snd∗, ex_e, id⊢}
 use base.Fml.{Share, Fml, fat, froom, fdies}
@@ -84,7 +84,7 @@ module _ {M : Type 1} {𝓤 : Ura M} {𝓛 : Logic 𝓤} {K : Type 0} {Γ : List
 module _ {M : Type 1} {𝓤 : Ura M} {𝓛 : Logic 𝓤} {K : Type 0} {C : Calls 𝓤 𝓛.H} {Λ : Loops 𝓤 𝓛.H} where
   open 𝓛 use {H}
 
-  module _ {Γ : List (Item 𝓤)} {E : Env 𝓤 H} {f : Name} {xs : List Operand} {d : Place} {rest : Body} {q : Post 𝓤 H} where
+  module _ {Γ : List (Item 𝓤)} {E : Env 𝓤 H} {f : Callee} {xs : List Operand} {d : Place} {rest : Body} {q : Post 𝓤 H} where
     pub calls-told : K → FmC 𝓤 H 𝓛.laws C → (T : Ended) (c : Clauses 𝓤 T) → Triple 𝓤 (C f) (Met 𝓛 T c) → (y : (Met 𝓛 T c).Ghost) (φ : Found 𝓛 T c y → Type 0) → States 𝓛 T c y φ → Opds K 𝓛 (raw ((Met 𝓛 T c).pre y) ∷ Γ) E xs ((Met 𝓛 T c).args y)
         → ((u : Val) (r : Found 𝓛 T c y) → φ r → Is (Result 𝓛 T c y) r (u ∷ []) → Seq K 𝓛 (‵ ((Result 𝓛 T c y).own_val r (u ∷ [])) ∷ tokens 𝓛 T c y ∷ Γ) (lands C Λ E d u rest q))
         → Seq K 𝓛 (raw ((Met 𝓛 T c).pre y) ∷ Γ) (runs C Λ E (seq (call f xs d) rest) q)
