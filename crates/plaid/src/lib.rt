@@ -1,4 +1,4 @@
-//! The C interface: structs by value and lent slices. A slice passes as a pointer and then a length.
+//! The C interface: structs by value and lent slices. A slice passes as a pointer and then a length. `plaid_c` exports each function to C.
 #![tactic(auto)]
 
 ghost use Rattle.std.specs.Prelude.{◌≡◌, length};
