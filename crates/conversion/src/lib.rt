@@ -14,6 +14,7 @@ pub struct Converted {
 }
 
 // Whether an input of so many bytes is no input of `wanted`, or an output of `room` bytes too short for a result of `result`.
+#[tactic(auto, unfolding(crate::specs::Conversion::misfit))]
 pub fn misfit(input: usize, wanted: usize, room: usize, res: usize) -> bool
     ensures { result ≡ misfit input wanted room res }
 {
