@@ -7,6 +7,7 @@ ghost use Rattle.conversion.specs.Conversion.{each};
 ghost use Rattle.hexadecimal.specs.Hexadecimal.{is_digit, digit_value, digit, octets_of, digits_of};
 
 // Whether a character is a hexadecimal digit, in either case.
+#[tactic(auto, unfolding(crate::specs::Hexadecimal::is_digit))]
 fn is_digit(c: u8) -> bool
     ensures { result ≡ is_digit c }
 {
@@ -42,6 +43,7 @@ pub fn are_digits(s: &[u8]) -> bool
 }
 
 // The value of a digit.
+#[tactic(auto, unfolding(crate::specs::Hexadecimal::is_digit, crate::specs::Hexadecimal::digit_value))]
 fn digit_value(c: u8) -> u8
     requires { is_digit c ≡ true }
     ensures value { result ≡ digit_value c }
@@ -57,6 +59,7 @@ fn digit_value(c: u8) -> u8
 }
 
 // The digit of a value, a small letter from ten on.
+#[tactic(auto, unfolding(crate::specs::Hexadecimal::digit))]
 fn digit(v: u8) -> u8
     requires { v < 16 }
     ensures { result ≡ digit v }
