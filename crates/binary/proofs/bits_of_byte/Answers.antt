@@ -4,15 +4,11 @@ use Prim.Native.Nat.{ℕ, ◌/◌, ◌%◌}
 use native.Mathlib.Omega.{arith}
 use Rattle.octets.specs.Lists.{cons}
 use Rattle.binary.specs.Binary.{binary}
-use Rattle.binary.proofs.bits_of_byte.Statement.{statement}
-use Rattle.binary.proofs.bits_of_byte.Tie as tie
+use Rattle.binary.proofs.bits_of_byte.Goals as goal
 
-returns : tie.Need-returns
+pub returns : goal.returns
 unfolding binary
 returns c =
     let b = c.args.b in
     let e : b ≡ b / 1 = omega arith in
     cons refl (cons refl (cons refl (cons refl (cons refl (cons refl (cons refl (cons (ap (λ (x : ℕ). x % 2) e) refl)))))))
-
-pub bits-of-byte-spec : {M : Type 1} → statement M
-bits-of-byte-spec = tie.close (tie.spec returns)
