@@ -77,18 +77,16 @@ module _ (p₀ p₁ p₂ p₃ q₀ q₁ q₂ q₃ : ℕ) where
         ∙ ap₂ bit_xor (is₀ a ha) (ap₂ bit_xor (is₁ b hb) (ap₂ bit_xor (is₂ c hc) (is₃ d hd)))
         ∙ xor_zero_r a
 
-units-inv : T (below (unit 0xe 0xb 0xd 9 2 3 1 1) 256)
-unfolding entry₀ entry₁ entry₂ entry₃ unit
-units-inv = tt
-
-units-mix : T (below (unit 2 3 1 1 0xe 0xb 0xd 9) 256)
-unfolding entry₀ entry₁ entry₂ entry₃ unit
-units-mix = tt
-
 pub inv-mix : (a b c d : ℕ) → a < 256 → b < 256 → c < 256 → d < 256 →
     row_times 0xe 0xb 0xd 9 (row_times 2 3 1 1 a b c d) (row_times 2 3 1 1 b c d a) (row_times 2 3 1 1 c d a b) (row_times 2 3 1 1 d a b c) ≡ a
-inv-mix = undone 0xe 0xb 0xd 9 2 3 1 1 (below_at (unit 0xe 0xb 0xd 9 2 3 1 1) 256 units-inv)
+unfolding entry₀ entry₁ entry₂ entry₃ unit
+inv-mix =
+    let units-inv : T (below (unit 0xe 0xb 0xd 9 2 3 1 1) 256) = tt in
+    undone 0xe 0xb 0xd 9 2 3 1 1 (below_at (unit 0xe 0xb 0xd 9 2 3 1 1) 256 units-inv)
 
 pub mix-inv : (a b c d : ℕ) → a < 256 → b < 256 → c < 256 → d < 256 →
     row_times 2 3 1 1 (row_times 0xe 0xb 0xd 9 a b c d) (row_times 0xe 0xb 0xd 9 b c d a) (row_times 0xe 0xb 0xd 9 c d a b) (row_times 0xe 0xb 0xd 9 d a b c) ≡ a
-mix-inv = undone 2 3 1 1 0xe 0xb 0xd 9 (below_at (unit 2 3 1 1 0xe 0xb 0xd 9) 256 units-mix)
+unfolding entry₀ entry₁ entry₂ entry₃ unit
+mix-inv =
+    let units-mix : T (below (unit 2 3 1 1 0xe 0xb 0xd 9) 256) = tt in
+    undone 2 3 1 1 0xe 0xb 0xd 9 (below_at (unit 2 3 1 1 0xe 0xb 0xd 9) 256 units-mix)
