@@ -1,0 +1,51 @@
+-- `list::entry_at` meets its contract: each return is one case of `entry_at`, told by the tests that led there. Assumes nothing.
+use mathlib.Core.Path.{sym, ◌∙◌}
+use native.Mathlib.Omega.{arith}
+use borrow.Author.Tests.{eq-eqb, ne_eqb, not-true, not-false}
+use Rattle.list.proofs.Within.{entry-within}
+use Rattle.list.specs.Ber.{entry_at}
+use Rattle.list.specs.Laws.{no-tag, past-entry}
+use Rattle.std.proofs.Common.{rules}
+use Rattle.list.proofs.entry_at.Goals as goal
+
+pub returns-then-d-at : goal.returns-then-d-at
+returns-then-d-at c = let a = c.args in c.no_entry.ensures ∙ sym (past-entry a.d.now a.at (omega arith))
+
+pub returns-then-d-at-ne4 : goal.returns-then-d-at-ne4
+returns-then-d-at-ne4 c = let a = c.args in c.no_entry-then-d-at-ne4.ensures ∙ sym (no-tag a.d.now a.at c.if-d-at-ne4.true)
+
+pub returns-then-not-l : goal.returns-then-not-l
+unfolding entry_at
+returns-then-not-l c =
+    c.no_entry-then-not-l.ensures
+    ∙ simp (eq-eqb _ _ c.if-d-at-ne4.false, ← c.length_at-l.ensures, not-true c.length_at-l.result.ok c.if-not-l.true)
+
+pub returns-then-l-ne2 : goal.returns-then-l-ne2
+unfolding entry_at
+returns-then-l-ne2 c =
+    c.no_entry-then-l-ne2.ensures ∙ simp (
+      eq-eqb _ _ c.if-d-at-ne4.false,
+      ← c.length_at-l.ensures,
+      not-false c.length_at-l.result.ok c.if-not-l.false,
+      ne_eqb c.length_at-l.result.value 2 c.if-l-ne2.true,
+    )
+
+pub id_at-requires : goal.id_at-requires
+id_at-requires c =
+    entry-within _ _ c.length_at-l.result c.length_at-l.ensures (not-false c.length_at-l.result.ok c.if-not-l.false) c.if-l-ne2.false
+
+pub overflow_add-result : goal.overflow_add-result
+overflow_add-result c =
+    let h = entry-within _ _ c.length_at-l.result c.length_at-l.ensures (not-false c.length_at-l.result.ok c.if-not-l.false) c.if-l-ne2.false in
+    search rules
+
+pub returns : goal.returns
+unfolding entry_at
+returns c =
+    simp (
+      eq-eqb _ _ c.if-d-at-ne4.false,
+      ← c.length_at-l.ensures,
+      not-false c.length_at-l.result.ok c.if-not-l.false,
+      eq-eqb c.length_at-l.result.value 2 c.if-l-ne2.false,
+      ← c.id_at.ensures,
+    )
