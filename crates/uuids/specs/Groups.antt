@@ -1,5 +1,5 @@
 -- Laws of a UUID's groups of digits: lengths, and what stands at each place. Assumes nothing.
-use Rattle.std.specs.Prelude.{◌≡◌, true, List, ◌++◌, ℕ, ◌+◌, ◌*◌, ◌/◌, ◌≤◌, eqb, length, get_or}
+use Rattle.std.specs.Prelude.{◌≡◌, true, List, ℕ, ◌+◌, ◌*◌, ◌/◌, ◌≤◌, eqb, length, get_or}
 use Rattle.std.proofs.Common.{ap, ◌∙◌, arith, eqb-true, length-append}
 use Rattle.octets.specs.Lists.{part, length_part}
 use Rattle.octets.specs.Same.{split-and}
