@@ -1,5 +1,5 @@
 -- Laws of one character of a UUID: a digit's value and its small form, computed over ASCII. Assumes nothing.
-use Rattle.std.specs.Prelude.{◌≡◌, refl, Bool, true, false, cond, ◌&&◌, ℕ, ◌<◌, T, eqb, ltb, leb}
+use Rattle.std.specs.Prelude.{◌≡◌, refl, Bool, true, false, cond, ◌&&◌, ℕ, ◌<◌, T, eqb, ltb}
 use Rattle.std.proofs.Common.{subst, arith, le-leb, ltb-true, ltb-false, eqb-true}
 use Rattle.std.proofs.lemmas.Bool.{lt-leb}
 use Rattle.octets.specs.Same.{split-and}
