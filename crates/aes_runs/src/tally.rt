@@ -1,4 +1,5 @@
 // What a run found, and how it is said.
+use std::io;
 
 // What one record gave.
 #[derive(Clone, Copy)]
@@ -18,11 +19,11 @@ pub struct Tally {
 }
 
 impl Ran {
-    pub fn say(self) {
+    pub fn say(self, rt: &impl Print) -> io::Result<()> {
         match self {
-            Ran::Agrees => rsp::say(b": agrees\n"),
-            Ran::Differs => rsp::say(b": differs\n"),
-            Ran::Unread => rsp::say(b": unreadable\n"),
+            Ran::Agrees => rsp::say(rt, b": agrees\n"),
+            Ran::Differs => rsp::say(rt, b": differs\n"),
+            Ran::Unread => rsp::say(rt, b": unreadable\n"),
         }
     }
 }
@@ -65,29 +66,24 @@ impl Tally {
 
     pub fn and(self, other: Tally) -> Tally {
         Tally {
-            enciphered: std::num::wrapping_add_u64(self.enciphered, other.enciphered),
-            deciphered: std::num::wrapping_add_u64(self.deciphered, other.deciphered),
-            differ: std::num::wrapping_add_u64(self.differ, other.differ),
-            unread: std::num::wrapping_add_u64(self.unread, other.unread),
+            enciphered: self.enciphered.wrapping_add(other.enciphered),
+            deciphered: self.deciphered.wrapping_add(other.deciphered),
+            differ: self.differ.wrapping_add(other.differ),
+            unread: self.unread.wrapping_add(other.unread),
         }
     }
 
-    pub fn say(self, name: &[u8]) {
-        rsp::say(name);
-        rsp::say(b": ");
-        rsp::say_number(self.enciphered);
-        rsp::say(b" enciphered, ");
-        rsp::say_number(self.deciphered);
-        rsp::say(b" deciphered, ");
-        rsp::say_number(self.differ);
-        rsp::say(b" differ, ");
-        rsp::say_number(self.unread);
-        rsp::say(b" unreadable\n");
+    pub fn say(self, rt: &impl Print, name: &[u8]) -> io::Result<()> {
+        rsp::say(rt, name)?;
+        println!(rt;
+            ": {} enciphered, {} deciphered, {} differ, {} unreadable",
+            self.enciphered, self.deciphered, self.differ, self.unread
+        )
     }
 }
 
 pub fn compare(made: &[u8], wanted: &[u8]) -> Ran {
-    if check::same(made, wanted) {
+    if made == wanted {
         Ran::Agrees
     } else {
         Ran::Differs
