@@ -5,6 +5,7 @@
 ghost use Rattle.std.specs.Prelude.{◌≤◌, length};
 
 use aes_runs::{Mode, Ran, Tally};
+use std::io;
 
 // Appendix A.1: w0 to w43 for the key 2b 7e 15 16 28 ae d2 a6 ab f7 15 88 09 cf 4f 3c, which is w0 to w3.
 const A1: [u32; 44] = [
@@ -66,26 +67,22 @@ fn words_that_differ(w: &[[u8; 16]; 15], wanted: &[u32]) -> u64
 }
 
 // The expansion of the key that hexadecimal digits say.
-fn expansion(name: &[u8], digits: &[u8], wanted: &[u32]) -> Tally
+fn expansion(rt: &impl Print, name: &[u8], digits: &[u8], wanted: &[u32]) -> io::Result<Tally>
     requires { length wanted.now ≤ 60 }
 {
     let mut key = [0u8; 32];
     let k = rsp::hex(digits, 0, &mut key);
-    rsp::say(name);
+    rsp::say(rt, name)?;
     if !key_expansion::is_key_length(k) {
-        Ran::Unread.say();
-        return Tally::none().with(false, Ran::Unread);
+        Ran::Unread.say(rt)?;
+        return Ok(Tally::none().with(false, Ran::Unread));
     }
     let w = key_expansion::expand(&sbox::byte_table(), &key[..k]);
     let n = words_that_differ(&w, wanted);
-    rsp::say(b": ");
-    rsp::say_number(wanted.len() as u64);
-    rsp::say(b" words of the key expansion, ");
-    rsp::say_number(n);
-    rsp::say(b" differ\n");
+    println!(rt; ": {} words of the key expansion, {n} differ", wanted.len())?;
     let mut tally = Tally::none();
     tally.differ = n;
-    tally
+    Ok(tally)
 }
 
 // The block that 32 hexadecimal digits say.
@@ -109,59 +106,72 @@ fn one_way(is_inverse: bool, digits: &[u8], input: &[u8], output: &[u8]) -> Tall
     Tally::none().with(is_inverse, ran)
 }
 
-fn appendix_b() -> Tally {
+fn appendix_b(rt: &impl Print) -> io::Result<Tally> {
     let tally = one_way(
         false,
         b"2b7e151628aed2a6abf7158809cf4f3c",
         b"3243f6a8885a308d313198a2e0370734",
         b"3925841d02dc09fbdc118597196a0b32",
     );
-    tally.say(b"FIPS 197 B");
-    tally
+    tally.say(rt, b"FIPS 197 B")?;
+    Ok(tally)
 }
 
 // An example of appendix C: the same block under each key, in both directions.
-fn appendix_c(name: &[u8], key: &[u8], cipher: &[u8]) -> Tally {
+fn appendix_c(rt: &impl Print, name: &[u8], key: &[u8], cipher: &[u8]) -> io::Result<Tally> {
     let plain = b"00112233445566778899aabbccddeeff";
     let tally = one_way(false, key, plain, cipher).and(one_way(true, key, cipher, plain));
-    tally.say(name);
-    tally
+    tally.say(rt, name)?;
+    Ok(tally)
 }
 
-fn expansions() -> Tally {
-    let a = expansion(b"FIPS 197 A.1", b"2b7e151628aed2a6abf7158809cf4f3c", &A1);
+fn expansions(rt: &impl Print) -> io::Result<Tally> {
+    let a = expansion(
+        rt,
+        b"FIPS 197 A.1",
+        b"2b7e151628aed2a6abf7158809cf4f3c",
+        &A1,
+    )?;
     let b = expansion(
+        rt,
         b"FIPS 197 A.2",
         b"8e73b0f7da0e6452c810f32b809079e562f8ead2522c6b7b",
         &A2,
-    );
+    )?;
     let c = expansion(
+        rt,
         b"FIPS 197 A.3",
         b"603deb1015ca71be2b73aef0857d77811f352c073b6108d72d9810a30914dff4",
         &A3,
-    );
-    a.and(b).and(c)
+    )?;
+    Ok(a.and(b).and(c))
 }
 
-fn ciphers() -> Tally {
+fn ciphers(rt: &impl Print) -> io::Result<Tally> {
     let a = appendix_c(
+        rt,
         b"FIPS 197 C.1",
         b"000102030405060708090a0b0c0d0e0f",
         b"69c4e0d86a7b0430d8cdb78070b4c55a",
-    );
+    )?;
     let b = appendix_c(
+        rt,
         b"FIPS 197 C.2",
         b"000102030405060708090a0b0c0d0e0f1011121314151617",
         b"dda97ca4864cdfe06eaf70a0ec0d7191",
-    );
+    )?;
     let c = appendix_c(
+        rt,
         b"FIPS 197 C.3",
         b"000102030405060708090a0b0c0d0e0f101112131415161718191a1b1c1d1e1f",
         b"8ea2b7ca516745bfeafc49904b496089",
-    );
-    a.and(b).and(c)
+    )?;
+    Ok(a.and(b).and(c))
 }
 
-fn main() {
-    expansions().and(appendix_b()).and(ciphers()).say(b"total");
+fn main(rt: HostRuntime) -> io::Result<()> {
+    let a = expansions(&rt)?;
+    let b = appendix_b(&rt)?;
+    let c = ciphers(&rt)?;
+    a.and(b).and(c).say(&rt, b"total")
 }

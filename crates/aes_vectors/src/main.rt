@@ -6,6 +6,8 @@
 ghost use Rattle.std.specs.Prelude.{◌≤◌, length};
 
 use aes_runs::{Mode, Ran, Tally};
+use std::io;
+use std::rt::Files;
 
 // The sections of a file. A record that stands in neither cannot be run.
 const NO_SECTION: u8 = 0;
@@ -72,23 +74,30 @@ fn record(s: &[u8], i: usize, kind: Kind, section: u8) -> Ran {
 }
 
 // Says of the record at place i that it did not agree, by its section and its first line.
-fn complain(name: &[u8], s: &[u8], i: usize, section: u8, ran: Ran) {
+fn complain(
+    rt: &impl Print,
+    name: &[u8],
+    s: &[u8],
+    i: usize,
+    section: u8,
+    ran: Ran,
+) -> io::Result<()> {
     if let Ran::Agrees = ran {
-        return;
+        return Ok(());
     }
-    rsp::say(name);
+    rsp::say(rt, name)?;
     if section == ENCRYPT {
-        rsp::say(b" [ENCRYPT] ");
+        rsp::say(rt, b" [ENCRYPT] ")?;
     } else if section == DECRYPT {
-        rsp::say(b" [DECRYPT] ");
+        rsp::say(rt, b" [DECRYPT] ")?;
     } else {
-        rsp::say(b" ");
+        rsp::say(rt, b" ")?;
     }
-    rsp::say_line(s, i);
-    ran.say();
+    rsp::say_line(rt, s, i)?;
+    ran.say(rt)
 }
 
-fn records(name: &[u8], s: &[u8], kind: Kind) -> Tally {
+fn records(rt: &impl Print, name: &[u8], s: &[u8], kind: Kind) -> io::Result<Tally> {
     let mut tally = Tally::none();
     let mut section = NO_SECTION;
     let mut i = 0;
@@ -96,31 +105,37 @@ fn records(name: &[u8], s: &[u8], kind: Kind) -> Tally {
         section = section_at(s, i, section);
         if rsp::starts(s, i, b"COUNT = ") {
             let ran = record(s, i, kind, section);
-            complain(name, s, i, section, ran);
+            complain(rt, name, s, i, section, ran)?;
             tally = tally.with(section == DECRYPT, ran);
         }
         i = rsp::next_line(s, i);
     }
-    tally
+    Ok(tally)
 }
 
 // Runs the records of the first n bytes of `buf`.
-fn run_part(name: &[u8], buf: &[u8], n: usize, kind: Kind) -> Tally {
+fn run_part(
+    rt: &impl Print,
+    name: &[u8],
+    buf: &[u8],
+    n: usize,
+    kind: Kind,
+) -> io::Result<Tally> {
     if buf.len() < n {
-        rsp::say(name);
-        rsp::say(b": cannot be read\n");
-        return Tally::none().with(false, Ran::Unread);
+        rsp::say(rt, name)?;
+        rsp::say(rt, b": cannot be read\n")?;
+        return Ok(Tally::none().with(false, Ran::Unread));
     }
-    records(name, &buf[0..n], kind)
+    records(rt, name, &buf[0..n], kind)
 }
 
 // Runs a file of at most 131,071 bytes.
-fn run(name: &[u8], kind: Kind) -> Tally {
+fn run(rt: &(impl Files + Print), name: &[u8], kind: Kind) -> io::Result<Tally> {
     let mut buf = [0u8; 131072];
-    let n = rsp::load(name, &mut buf);
-    let tally = run_part(name, &buf, n, kind);
-    tally.say(name);
-    tally
+    let n = rsp::load(rt, name, &mut buf);
+    let tally = run_part(rt, name, &buf, n, kind)?;
+    tally.say(rt, name)?;
+    Ok(tally)
 }
 
 // Puts `part` at place i of `name`, if it fits, and answers where it ends.
@@ -136,38 +151,46 @@ fn join(name: &mut [u8], i: usize, part: &[u8]) -> usize
 }
 
 // Runs the file that is named by its mode, its test and its keys' bits.
-fn run_named(mode: &[u8], test: &[u8], bits: &[u8]) -> Tally {
+fn run_named(
+    rt: &(impl Files + Print),
+    mode: &[u8],
+    test: &[u8],
+    bits: &[u8],
+) -> io::Result<Tally> {
     let mut name = [0u8; 32];
     let a = join(&mut name, 0, mode);
     let b = join(&mut name, a, test);
     let c = join(&mut name, b, bits);
     let e = join(&mut name, c, b".rsp");
     run(
+        rt,
         &name[..e],
         Kind {
-            is_chained: check::same(mode, b"CBC"),
+            is_chained: mode == b"CBC",
             key_length: rsp::decimal(bits, 0) / 8,
         },
     )
 }
 
 // The five files of a mode and a key length.
-fn files(mode: &[u8], bits: &[u8]) -> Tally {
-    let a = run_named(mode, b"GFSbox", bits);
-    let b = run_named(mode, b"KeySbox", bits);
-    let c = run_named(mode, b"VarKey", bits);
-    let d = run_named(mode, b"VarTxt", bits);
-    let e = run_named(mode, b"MMT", bits);
-    a.and(b).and(c).and(d).and(e)
+fn files(rt: &(impl Files + Print), mode: &[u8], bits: &[u8]) -> io::Result<Tally> {
+    let a = run_named(rt, mode, b"GFSbox", bits)?;
+    let b = run_named(rt, mode, b"KeySbox", bits)?;
+    let c = run_named(rt, mode, b"VarKey", bits)?;
+    let d = run_named(rt, mode, b"VarTxt", bits)?;
+    let e = run_named(rt, mode, b"MMT", bits)?;
+    Ok(a.and(b).and(c).and(d).and(e))
 }
 
-fn lengths(mode: &[u8]) -> Tally {
-    let a = files(mode, b"128");
-    let b = files(mode, b"192");
-    let c = files(mode, b"256");
-    a.and(b).and(c)
+fn lengths(rt: &(impl Files + Print), mode: &[u8]) -> io::Result<Tally> {
+    let a = files(rt, mode, b"128")?;
+    let b = files(rt, mode, b"192")?;
+    let c = files(rt, mode, b"256")?;
+    Ok(a.and(b).and(c))
 }
 
-fn main() {
-    lengths(b"ECB").and(lengths(b"CBC")).say(b"total");
+fn main(rt: HostRuntime) -> io::Result<()> {
+    let ecb = lengths(&rt, b"ECB")?;
+    let cbc = lengths(&rt, b"CBC")?;
+    ecb.and(cbc).say(&rt, b"total")
 }

@@ -3,6 +3,7 @@
 #![tactic(auto)]
 
 use line::Line;
+use std::io::Read;
 
 mod line;
 
@@ -14,28 +15,29 @@ struct Run {
 }
 
 // Writes the answer to a line; false where it cannot be written.
-fn say(line: Line) -> bool {
+fn say(rt: &impl Print, line: Line) -> bool {
     let all = line.start;
     let n = line.length;
     let m = line::kept(n);
     let mut out = [0u8; 512];
     let k = door_answers::answer(&all[..m], n, &mut out);
-    io::write_all(libc::STDOUT_FILENO, &out[..k])
+    rt.write_all(&out[..k]).is_ok()
 }
 
-fn complain(words: &[u8]) {
-    io::write_all(libc::STDERR_FILENO, words);
+// What cannot be written here is told nowhere.
+fn complain(rt: &impl Eprint, words: &str) {
+    let _ = rt.eprintln(words);
 }
 
 // The bytes that were read, behind the line that those before them began: each line that ends among them is answered.
-fn take(begun: Line, bytes: &[u8]) -> Run {
+fn take(rt: &(impl Print + Eprint), begun: Line, bytes: &[u8]) -> Run {
     let mut line = begun;
     let mut i: usize = 0;
     while i < bytes.len() {
         let b = bytes[i];
         if b == line::LF {
-            if !say(line) {
-                complain(b"door: standard output cannot be written\n");
+            if !say(rt, line) {
+                complain(rt, "door: standard output cannot be written");
                 return stopped();
             }
             line = line::empty();
@@ -59,41 +61,38 @@ fn stopped() -> Run {
 }
 
 // The end of the input: the line that no LF ended is answered, if there is one.
-fn ended(begun: Line) -> Run {
+fn ended(rt: &(impl Print + Eprint), begun: Line) -> Run {
     let line = line::whole(begun);
     if 0 < line.length {
-        if !say(line) {
-            complain(b"door: standard output cannot be written\n");
+        if !say(rt, line) {
+            complain(rt, "door: standard output cannot be written");
         }
     }
     stopped()
 }
 
 // One piece of the input, as much as there is at once.
-fn piece(begun: Line) -> Run {
-    let mut buf = io::buffer();
-    let got = libc::read(libc::STDIN_FILENO, &mut buf);
-    if got < 0 {
-        complain(b"door: standard input cannot be read\n");
-        return stopped();
+fn piece(rt: &(impl Print + Eprint), input: &mut impl Read, begun: Line) -> Run {
+    let mut buf = [0u8; 4096];
+    match input.read(&mut buf) {
+        Ok(0) => ended(rt, begun),
+        Ok(n) => take(rt, begun, &buf[..n]),
+        Err(_) => {
+            complain(rt, "door: standard input cannot be read");
+            stopped()
+        }
     }
-    let n = io::count(got, &buf);
-    if n == 0 {
-        return ended(begun);
-    }
-    take(begun, &buf[..n])
 }
 
-// Nothing shows the prover that the input ends, so the pieces are counted down from the largest number, which no input has.
-fn main() {
+// Nothing shows the prover that the input ends, so the pieces are counted up to the largest number, which no input has.
+fn main(rt: HostRuntime) {
+    let mut input = rt.stdin();
     let mut line = line::empty();
-    let mut left: u64 = 0xffff_ffff_ffff_ffff;
-    while 0 < left {
-        let run = piece(line);
+    for _ in 0..u64::MAX {
+        let run = piece(&rt, &mut input, line);
         if !run.open {
             return;
         }
         line = run.line;
-        left -= 1;
     }
 }

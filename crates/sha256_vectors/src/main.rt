@@ -2,6 +2,8 @@
 
 // Runs NIST's response files for SHA-256 and compares each digest: short messages, long messages and the Monte Carlo test.
 // A file that cannot be read, and a record that cannot, each gives a line of its own, as a digest that differs does.
+use std::io;
+use std::rt::Files;
 
 // What the records of a file gave so far.
 #[derive(Clone, Copy)]
@@ -51,41 +53,38 @@ impl Tally {
 
     fn and(self, other: Tally) -> Tally {
         Tally {
-            hashed: std::num::wrapping_add_u64(self.hashed, other.hashed),
-            differ: std::num::wrapping_add_u64(self.differ, other.differ),
-            unread: std::num::wrapping_add_u64(self.unread, other.unread),
+            hashed: self.hashed.wrapping_add(other.hashed),
+            differ: self.differ.wrapping_add(other.differ),
+            unread: self.unread.wrapping_add(other.unread),
         }
     }
 
-    fn say(self, name: &[u8]) {
-        rsp::say(name);
-        rsp::say(b": ");
-        rsp::say_number(self.hashed);
-        rsp::say(b" hashed, ");
-        rsp::say_number(self.differ);
-        rsp::say(b" differ, ");
-        rsp::say_number(self.unread);
-        rsp::say(b" unreadable\n");
+    fn say(self, rt: &impl Print, name: &[u8]) -> io::Result<()> {
+        rsp::say(rt, name)?;
+        println!(rt;
+            ": {} hashed, {} differ, {} unreadable",
+            self.hashed, self.differ, self.unread
+        )
     }
 }
 
 // Says of the record at place i that it did not agree, by its first line.
-fn complain(name: &[u8], s: &[u8], i: usize, ran: Ran) {
+fn complain(rt: &impl Print, name: &[u8], s: &[u8], i: usize, ran: Ran) -> io::Result<()> {
     if let Ran::Agrees = ran {
-        return;
+        return Ok(());
     }
-    rsp::say(name);
-    rsp::say(b" ");
-    rsp::say_line(s, i);
+    rsp::say(rt, name)?;
+    rsp::say(rt, b" ")?;
+    rsp::say_line(rt, s, i)?;
     if let Ran::Differs = ran {
-        rsp::say(b": differs\n");
+        rsp::say(rt, b": differs\n")
     } else {
-        rsp::say(b": unreadable\n");
+        rsp::say(rt, b": unreadable\n")
     }
 }
 
 fn compare(made: [u8; 32], wanted: [u8; 32]) -> Ran {
-    if check::same(&made, &wanted) {
+    if made == wanted {
         Ran::Agrees
     } else {
         Ran::Differs
@@ -126,18 +125,18 @@ fn hash(text: &[u8], n: usize, wanted: [u8; 32]) -> Ran {
     compare(sha256::digest(&text[0..n]), wanted)
 }
 
-fn messages(name: &[u8], s: &[u8]) -> Tally {
+fn messages(rt: &impl Print, name: &[u8], s: &[u8]) -> io::Result<Tally> {
     let mut tally = Tally::none();
     let mut i = 0;
     while i < s.len() {
         if rsp::starts(s, i, b"Len = ") {
             let ran = message(s, i);
-            complain(name, s, i, ran);
+            complain(rt, name, s, i, ran)?;
             tally = tally.with(ran);
         }
         i = rsp::next_line(s, i);
     }
-    tally
+    Ok(tally)
 }
 
 // The last 64 bytes of `m`, and then `d`.
@@ -197,7 +196,7 @@ fn output(s: &[u8], i: usize, made: [u8; 32]) -> Ran {
     compare(made, wanted)
 }
 
-fn outputs(name: &[u8], s: &[u8], start: [u8; 32]) -> Tally {
+fn outputs(rt: &impl Print, name: &[u8], s: &[u8], start: [u8; 32]) -> io::Result<Tally> {
     let mut seed = start;
     let mut tally = Tally::none();
     let mut i = 0;
@@ -205,51 +204,57 @@ fn outputs(name: &[u8], s: &[u8], start: [u8; 32]) -> Tally {
         if rsp::starts(s, i, b"COUNT = ") {
             let made = thousand(seed);
             let ran = output(s, i, made);
-            complain(name, s, i, ran);
+            complain(rt, name, s, i, ran)?;
             tally = tally.with(ran);
             seed = made;
         }
         i = rsp::next_line(s, i);
     }
-    tally
+    Ok(tally)
 }
 
-fn monte(name: &[u8], s: &[u8]) -> Tally {
+fn monte(rt: &impl Print, name: &[u8], s: &[u8]) -> io::Result<Tally> {
     let mut seed = [0u8; 32];
     if rsp::hex(s, seed_place(s), &mut seed) != 32 {
-        rsp::say(name);
-        rsp::say(b": unreadable seed\n");
-        return Tally::none().with(Ran::Unread);
+        rsp::say(rt, name)?;
+        rsp::say(rt, b": unreadable seed\n")?;
+        return Ok(Tally::none().with(Ran::Unread));
     }
-    outputs(name, s, seed)
+    outputs(rt, name, s, seed)
 }
 
 // Runs a file of at most 524,287 bytes.
-fn run(name: &[u8], is_monte: bool) -> Tally {
+fn run(rt: &(impl Files + Print), name: &[u8], is_monte: bool) -> io::Result<Tally> {
     let mut buf = [0u8; 524288];
-    let n = rsp::load(name, &mut buf);
-    let tally = records(name, &buf, n, is_monte);
-    tally.say(name);
-    tally
+    let n = rsp::load(rt, name, &mut buf);
+    let tally = records(rt, name, &buf, n, is_monte)?;
+    tally.say(rt, name)?;
+    Ok(tally)
 }
 
 // Runs the records of the first n bytes of `buf`.
-fn records(name: &[u8], buf: &[u8], n: usize, is_monte: bool) -> Tally {
+fn records(
+    rt: &impl Print,
+    name: &[u8],
+    buf: &[u8],
+    n: usize,
+    is_monte: bool,
+) -> io::Result<Tally> {
     if buf.len() < n {
-        rsp::say(name);
-        rsp::say(b": cannot be read\n");
-        return Tally::none().with(Ran::Unread);
+        rsp::say(rt, name)?;
+        rsp::say(rt, b": cannot be read\n")?;
+        return Ok(Tally::none().with(Ran::Unread));
     }
     if is_monte {
-        monte(name, &buf[0..n])
+        monte(rt, name, &buf[0..n])
     } else {
-        messages(name, &buf[0..n])
+        messages(rt, name, &buf[0..n])
     }
 }
 
-fn main() {
-    let short = run(b"SHA256ShortMsg.rsp", false);
-    let long = run(b"SHA256LongMsg.rsp", false);
-    let monte = run(b"SHA256Monte.rsp", true);
-    short.and(long).and(monte).say(b"total");
+fn main(rt: HostRuntime) -> io::Result<()> {
+    let short = run(&rt, b"SHA256ShortMsg.rsp", false)?;
+    let long = run(&rt, b"SHA256LongMsg.rsp", false)?;
+    let monte = run(&rt, b"SHA256Monte.rsp", true)?;
+    short.and(long).and(monte).say(&rt, b"total")
 }

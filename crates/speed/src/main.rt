@@ -8,8 +8,12 @@
 // A.1, A.2 and A.3 for expand-N (the last round key, which goes over the first 16 bytes of the next key); SP 800-38A F.2.1, F.2.3 and
 // F.2.5 for cbc-encipher-N, F.2.2, F.2.4 and F.2.6 for cbc-decipher-N (four blocks). work-sum-N is of the 11, 13 or 15 round keys of A.1,
 // A.2 or A.3, from 0. sha256-N is of N bytes, at most 1,024, which are zeros the first time; each digest then goes over the first 32.
-ghost use Rattle.std.specs.Prelude.{◌≡◌, true, ◌<◌, ◌≤◌, ◌^◌, length};
+ghost use Rattle.std.specs.Prelude.{◌≡◌, true, ◌<◌, ◌≤◌, ◌^◌, length, IfSome};
 ghost use Rattle.key_expansion.specs.KeyLength.{is_key_length};
+
+use std::env::FillError;
+use std::io;
+use std::rt::Env;
 
 // What is done under the round keys of a key, once they are made.
 #[derive(Clone, Copy)]
@@ -21,17 +25,17 @@ enum Operation {
     WorkSum,
 }
 
-fn show(b: &[u8]) {
-    rsp::say_bytes(b);
-    rsp::say(b"\n");
+fn show(rt: &impl Print, b: &[u8]) -> io::Result<()> {
+    rsp::say_bytes(rt, b)?;
+    rsp::say(rt, b"\n")
 }
 
-fn show_block(b: [u8; 16]) {
-    show(&b);
+fn show_block(rt: &impl Print, b: [u8; 16]) -> io::Result<()> {
+    show(rt, &b)
 }
 
-fn none_such() {
-    rsp::say(b"no such operation\n");
+fn none_such(rt: &impl Print) -> io::Result<()> {
+    rsp::say(rt, b"no such operation\n")
 }
 
 // Puts the bytes that hexadecimal digits say into `out` and answers how many they are: the digits a for a key of 16 bytes, b for 24, c for 32.
@@ -139,13 +143,12 @@ fn expand(key: &mut [u8], times: usize) -> [u8; 16]
     octets::block_at(key, 0)
 }
 
-fn show_expand(n: usize, times: usize) {
+fn show_expand(rt: &impl Print, n: usize, times: usize) -> io::Result<()> {
     if !key_expansion::is_key_length(n) {
-        none_such();
-        return;
+        return none_such(rt);
     }
     let mut key = random_key(n);
-    show_block(expand(&mut key[..n], times));
+    show_block(rt, expand(&mut key[..n], times))
 }
 
 // SHA-256 of the first n bytes, at least once; each digest goes over the first 32. By two calls, and with a length that only the run knows,
@@ -165,14 +168,13 @@ fn hash(text: &mut [u8], n: usize, times: usize) -> [u8; 32]
     d
 }
 
-fn show_hash(n: usize, times: usize) {
+fn show_hash(rt: &impl Print, n: usize, times: usize) -> io::Result<()> {
     if 1024 < n {
-        none_such();
-        return;
+        return none_such(rt);
     }
     let mut text = [0u8; 1024];
     let d = hash(&mut text, n, times);
-    show(&d);
+    show(rt, &d)
 }
 
 fn chain_once(
@@ -239,16 +241,23 @@ fn four_blocks(is_enciphered: bool, n: usize, text: &mut [u8]) -> usize {
 }
 
 // The sum goes to standard error, so that it has to be made.
-fn show_chain(key: &[u8], w: &[[u8; 16]], is_inverse: bool, times: usize)
+fn show_chain(
+    rt: &(impl Print + Eprint),
+    key: &[u8],
+    w: &[[u8; 16]],
+    is_inverse: bool,
+    times: usize,
+) -> io::Result<()>
     requires { 1 < length w.now }
 {
     let mut text = [0u8; 64];
     let n = four_blocks(is_inverse, key.len(), &mut text);
     if n <= 64 {
         let sum = chain_part(key, w, &mut text, n, is_inverse, times);
-        io::print_decimal(2, sum as u64);
-        show(&text);
+        rt.eprint(sum)?;
+        show(rt, &text)?;
     }
+    Ok(())
 }
 
 // The work sum over round keys, at least once. The compiler puts it, and this function, into `show_under`.
@@ -264,13 +273,17 @@ fn sum_rows(w: &[[u8; 16]], times: usize) -> u32
     sum
 }
 
-fn show_sum(sum: u32) {
-    io::print_decimal(1, sum as u64);
-    rsp::say(b"\n");
+fn show_sum(rt: &impl Print, sum: u32) -> io::Result<()> {
+    rt.println(sum)
 }
 
 // An operation under a key, which is expanded once.
-fn under(operation: Operation, key: &[u8], times: usize)
+fn under(
+    rt: &(impl Print + Eprint),
+    operation: Operation,
+    key: &[u8],
+    times: usize,
+) -> io::Result<()>
     requires { is_key_length (length key.now) ≡ true }
 {
     let table = sbox::byte_table();
@@ -278,77 +291,100 @@ fn under(operation: Operation, key: &[u8], times: usize)
     let n = key.len() / 4 + 7;
     let w = &rows[..n];
     match operation {
-        Operation::Encipher => show_block(encipher(w, times)),
-        Operation::Decipher => show_block(decipher(key.len(), w, times)),
-        Operation::ChainEncipher => show_chain(key, w, false, times),
-        Operation::ChainDecipher => show_chain(key, w, true, times),
-        Operation::WorkSum => show_sum(sum_rows(w, times)),
+        Operation::Encipher => show_block(rt, encipher(w, times)),
+        Operation::Decipher => show_block(rt, decipher(key.len(), w, times)),
+        Operation::ChainEncipher => show_chain(rt, key, w, false, times),
+        Operation::ChainDecipher => show_chain(rt, key, w, true, times),
+        Operation::WorkSum => show_sum(rt, sum_rows(w, times)),
     }
 }
 
 // An operation under the first n bytes of a key.
-fn show_under(operation: Operation, key: [u8; 32], n: usize, times: usize) {
+fn show_under(
+    rt: &(impl Print + Eprint),
+    operation: Operation,
+    key: [u8; 32],
+    n: usize,
+    times: usize,
+) -> io::Result<()> {
     if !key_expansion::is_key_length(n) {
-        none_such();
-        return;
+        return none_such(rt);
     }
-    under(operation, &key[..n], times);
+    under(rt, operation, &key[..n], times)
 }
 
 // An operation whose key is one of FIPS 197 A.
-fn show_random(operation: Operation, n: usize, times: usize) {
-    show_under(operation, random_key(n), n, times);
+fn show_random(
+    rt: &(impl Print + Eprint),
+    operation: Operation,
+    n: usize,
+    times: usize,
+) -> io::Result<()> {
+    show_under(rt, operation, random_key(n), n, times)
 }
 
-fn operate(name: &[u8], times: usize) {
+fn operate(rt: &(impl Print + Eprint), name: &[u8], times: usize) -> io::Result<()> {
     if times == rsp::NONE {
-        rsp::say(b"no number\n");
+        rsp::say(rt, b"no number\n")
     } else if rsp::starts(name, 0, b"encipher-") {
         show_under(
+            rt,
             Operation::Encipher,
             counted_key(),
             rsp::decimal(name, 9),
             times,
-        );
+        )
     } else if rsp::starts(name, 0, b"decipher-") {
         show_under(
+            rt,
             Operation::Decipher,
             counted_key(),
             rsp::decimal(name, 9),
             times,
-        );
+        )
     } else if rsp::starts(name, 0, b"expand-") {
-        show_expand(rsp::decimal(name, 7), times);
+        show_expand(rt, rsp::decimal(name, 7), times)
     } else if rsp::starts(name, 0, b"cbc-encipher-") {
-        show_random(Operation::ChainEncipher, rsp::decimal(name, 13), times);
+        show_random(rt, Operation::ChainEncipher, rsp::decimal(name, 13), times)
     } else if rsp::starts(name, 0, b"cbc-decipher-") {
-        show_random(Operation::ChainDecipher, rsp::decimal(name, 13), times);
+        show_random(rt, Operation::ChainDecipher, rsp::decimal(name, 13), times)
     } else if rsp::starts(name, 0, b"work-sum-") {
-        show_random(Operation::WorkSum, rsp::decimal(name, 9), times);
+        show_random(rt, Operation::WorkSum, rsp::decimal(name, 9), times)
     } else if rsp::starts(name, 0, b"sha256-") {
-        show_hash(rsp::decimal(name, 7), times);
+        show_hash(rt, rsp::decimal(name, 7), times)
     } else {
-        none_such();
+        none_such(rt)
     }
 }
 
-// The operation that argument i names, as often as argument j says.
-fn run(i: usize, j: usize) {
+// Puts argument i at the start of `out`, as much of it as fits, and answers how many bytes that are. None where there is no such argument.
+fn argument(rt: &impl Env, i: usize, out: &mut [u8]) -> Option<usize>
+    ensures { IfSome result (λ n. n ≤ length out.new) }
+{
+    match rt.arg(i, out) {
+        Ok(n) => Some(n),
+        Err(FillError::TooLong) => Some(out.len()),
+        Err(FillError::NotPresent) => None,
+    }
+}
+
+// The operation that argument i names, as often as argument j says; false where there is no argument i.
+fn run(rt: &(impl Env + Print + Eprint), i: usize, j: usize) -> io::Result<bool> {
     let mut name = [0u8; 16];
     let mut digits = [0u8; 16];
-    let n = os::arg(i, &mut name);
-    let m = os::arg(j, &mut digits);
-    operate(&name[..n], rsp::decimal(&digits[..m], 0));
+    let Some(n) = argument(rt, i, &mut name) else {
+        return Ok(false);
+    };
+    let m = argument(rt, j, &mut digits).unwrap_or(0);
+    operate(rt, &name[..n], rsp::decimal(&digits[..m], 0))?;
+    Ok(true)
 }
 
-fn main() {
-    let count = os::arg_count();
-    let mut i = 1;
-    while i < count {
-        run(i, i + 1);
-        if count - i < 3 {
-            return;
+fn main(rt: HostRuntime) -> io::Result<()> {
+    for k in 0..usize::MAX / 2 {
+        if !run(&rt, 2 * k + 1, 2 * k + 2)? {
+            break;
         }
-        i += 2;
     }
+    Ok(())
 }
