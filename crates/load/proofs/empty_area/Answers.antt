@@ -1,0 +1,8 @@
+-- `empty_area` meets its contract, by computing. Assumes nothing.
+use mathlib.Core.Path.{refl}
+use Rattle.load.specs.Load.{filled}
+use Rattle.load.proofs.empty_area.Goals as goal
+
+pub returns : goal.returns
+unfolding filled
+returns c = refl

@@ -1,0 +1,8 @@
+-- `empty_modes` meets its contract, by computing. Assumes nothing.
+use mathlib.Core.Path.{refl}
+use Rattle.load.specs.Load.{filled}
+use Rattle.load.proofs.empty_modes.Goals as goal
+
+pub returns : goal.returns
+unfolding filled
+returns c = refl
