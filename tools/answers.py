@@ -101,10 +101,10 @@ class Turned:
                     new.append(FIELDS.get(p, p))
                 level = "other"
             elif level == "args":
-                new.append(self.args.get(norm(p), p))
+                new.append(self.args.get(norm(p), p.replace("-", "_")))
                 level = "other"
             else:
-                new.append(FIELDS.get(p, p))
+                new.append(FIELDS.get(p, p.replace("-", "_")))
             i += 1
         return out_root + "".join("." + p for p in new), level
 
@@ -208,6 +208,8 @@ def turn(crate, fn, names):
             args = lhs.split()[1:]
             flags = changed.get(loop, [])
             words = {}
+            if len(args) > len(live) + sum(flags):
+                args = [a for a in args if a in live or not re.fullmatch(r"t\d+", a)]
             if len(args) == len(live) + sum(flags):
                 for v, a, f in zip(live, args, flags):
                     words[a] = ("l.initial." if f else "l.") + v

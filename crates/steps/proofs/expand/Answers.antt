@@ -12,9 +12,8 @@ use Rattle.work.specs.Steps.{expansion, mixed, mixed_all, sum_from}
 use Rattle.work.specs.Laws.{mixed_all-append}
 use Rattle.steps.specs.declared.Expanded.{Expanded}
 use Rattle.steps.specs.Made.{expansion_step}
-use borrow.Author.Rules.{rules}
-use Rattle.steps.proofs.expand.Statement.{statement}
-use Rattle.steps.proofs.expand.Tie as tie
+use Rattle.std.proofs.Common.{rules}
+use Rattle.steps.proofs.expand.Goals as goal
 
 abbrev made : List (List ℕ) → ℕ → Expanded
 made w s = record { rows = w; count = 1; sum = s }
@@ -33,54 +32,22 @@ same key s {w} ew ea eb ed =
     ∙ ap₂ (λ (t : ℕ) (x : List (List ℕ)). mixed_all t (flatten x)) (eb ∙ ap (λ (t : ℕ). mixed_all t key) ea) (lent key ew)
     ∙ summed key keys s)
 
-expand-requires : tie.Need-expand-requires
-expand-requires c κs = search rules
+pub slice_bounds-rows-end : goal.slice_bounds-rows-end
+slice_bounds-rows-end c =
+    let long : length c.expand-rows.result ≡ 15 = search rules in
+    omega (arith, long, length_most (length c.args.key.now) c.requires.1)
 
-add-n : tie.Need-overflow-add-n
-add-n c = search rules
+pub slice_bounds-mix_rows-end : goal.slice_bounds-mix_rows-end
+slice_bounds-mix_rows-end c =
+    let k = c.args.key.now in
+    sym (length-lent k c.expand-rows.ensures)
 
-mix-requires : tie.Need-mix-requires
-mix-requires c κs = search rules
+pub mix_rows-c-requires : goal.mix_rows-c-requires
+mix_rows-c-requires c =
+    let k = c.args.key.now in
+    omega (arith, length-lent k c.expand-rows.ensures, length_most (length k) c.requires.1)
 
-mix-all-requires : tie.Need-mix-all-requires
-mix-all-requires c κs = search rules
-
-array-share-prefix-rows : tie.Need-array-share-prefix-rows
-array-share-prefix-rows c =
-    let p = c.before.before.before.before in
-    let long : length c.before.before.expand.result ≡ 15 = search rules in
-    omega (arith, long, length_most (length p.args.key.now) p.requires.1)
-
-slice-aggregate-mix-rows : tie.Need-slice-aggregate-mix-rows
-slice-aggregate-mix-rows c =
-    let k = c.before.before.before.before.before.args.key.now in
-    sym (length-lent k c.before.before.before.expand.ensures)
-
-mix-rows-requires : tie.Need-mix-rows-requires
-mix-rows-requires c κs =
-    let p = c.before.before.before.before.before in
-    let k = p.args.key.now in
-    omega (arith, length-lent k c.before.before.before.expand.ensures, length_most (length k) p.requires.1)
-
-together-requires : tie.Need-together-requires
-together-requires c κs = search rules
-
-returns : tie.Need-returns
+pub returns : goal.returns
 returns c =
-    let b = c.before.before.before in
-    let a = b.before.before.before.before.args in
-    c.together.ensures ∙ same a.key.now a.sum b.before.before.expand.ensures b.before.mix.ensures b.mix_all.ensures c.before.mix-rows.ensures
-
-pub expand-spec : {M : Type 1} → statement M
-expand-spec =
-    tie.close
-    (tie.spec
-    expand-requires
-    add-n
-    mix-requires
-    mix-all-requires
-    array-share-prefix-rows
-    slice-aggregate-mix-rows
-    mix-rows-requires
-    together-requires
-    returns)
+    let a = c.args in
+    c.together.ensures ∙ same a.key.now a.sum c.expand-rows.ensures c.mix-a.ensures c.mix_all-b.ensures c.mix_rows-c.ensures
