@@ -2,7 +2,6 @@
 use mathlib.Core.Path.{sym, ◌∙◌}
 use native.Mathlib.Omega.{arith}
 use lib.ListN.{length}
-use lib.Seq.{length-take-le}
 use Rattle.conversion.specs.Answers.{fits}
 use Rattle.binary.specs.Laws.{bits_small}
 use Rattle.wiegand.proofs.Ways.{record-misfit, record-above, record-wrong, record-made}
@@ -19,10 +18,6 @@ pub bits_of-bits-requires : goal.bits_of-bits-requires
 bits_of-bits-requires c =
     let a = c.args in
     (fits (length a.bytes.now) 4 (length a.out.now) 26 (sym c.misfit.ensures ∙ c.if-misfit.false)).0
-
-pub slice_bounds-ones-end : goal.slice_bounds-ones-end
-slice_bounds-ones-end c =
-    sym (length-take-le 6 c.bits_of-bits.result (search rules))
 
 pub returns-then-above-ne0 : goal.returns-then-above-ne0
 returns-then-above-ne0 c =
