@@ -160,7 +160,7 @@ impl<'a> Cursor<'a> {
     }
 }
 
-// The same with plain parameters, so that no other caller needs a walk by hand.
+// The same with plain parameters.
 pub fn step_from(list: &[u8], at: usize) -> Entry
     ensures { result ≡ entry_at list.now at }
 {
