@@ -99,6 +99,14 @@ class Turned:
                         self.left.append("`%s.%s`: name the parameter after .new" % (root, ".".join(parts)))
                 else:
                     new.append(FIELDS.get(p, p))
+                    if p == "ensures" and i + 1 < len(parts) and parts[i + 1].isdigit():
+                        callee = norm(step)
+                        for word in (callee, re.sub(r"-?\d*$", "", callee)):
+                            clauses = clause_names(self.crate, word.replace("-", "_"))
+                            if len(clauses) > int(parts[i + 1]):
+                                new.append(clauses[int(parts[i + 1])])
+                                i += 1
+                                break
                 level = "other"
             elif level == "args":
                 new.append(self.args.get(norm(p), p.replace("-", "_")))
@@ -143,6 +151,71 @@ class Turned:
                 known.pop(name, None)
             at = m.end()
         return "".join(out)
+
+
+def clause_names(crate, callee):
+    """The names of a function's ensures clauses, in order; [] where it has one without a name, or cannot be found."""
+    for f in sorted(glob.glob("crates/%s/src/*.rt" % crate)) + sorted(glob.glob("crates/*/src/*.rt")):
+        with open(f, encoding="utf-8") as it:
+            m = re.search(r"\bfn %s\s*(?:<[^>]*>)?\(.*?\n\{\n" % re.escape(callee), it.read(), re.S)
+        if m:
+            return re.findall(r"^    ensures (\w+) \{", m[0], re.M)
+    return []
+
+
+def closing(text, at):
+    """Where the bracket that opens at a place closes."""
+    depth = 0
+    for i in range(at, len(text)):
+        depth += {"(": 1, "{": 1, "[": 1, ")": -1, "}": -1, "]": -1}.get(text[i], 0)
+        if depth == 0:
+            return i
+    return -1
+
+
+def parts_of(text):
+    """The parts of a tuple's inside, at its outer commas."""
+    depth, out, now = 0, [], ""
+    for ch in text:
+        depth += {"(": 1, "{": 1, "[": 1, ")": -1, "}": -1, "]": -1}.get(ch, 0)
+        if ch == "," and depth == 0:
+            out.append(now)
+            now = ""
+        else:
+            now += ch
+    if now.strip():
+        out.append(now)
+    return [p.strip() for p in out]
+
+
+def as_record(body, names):
+    """A tuple of a function's clauses as the record that they are now."""
+    text = body.rstrip()
+    if text.endswith(")"):
+        for m in re.finditer(r"(?:^|\bin )\s*\(", text):
+            at = m.end() - 1
+            if closing(text, at) == len(text) - 1:
+                inside = parts_of(text[at + 1:-1])
+                if len(inside) == len(names):
+                    return text[:at].rstrip() + "\n    record { " + "; ".join("%s = %s" % p for p in zip(names, inside)) + " }"
+    last = 0
+    for m in re.finditer(r"\bin\s", text):
+        before = text[:m.start()]
+        if all(before.count(a) == before.count(b) for a, b in ("()", "[]", "{}")):
+            last = m.end()
+    head, body = text[:last], text[last:].strip()
+    if body.startswith("elim ") or " as " in body:
+        return None
+    return "%s\n    let all = %s in\n    record { %s }" % (head.rstrip(), body, "; ".join("%s = all.%d" % (n, i) for i, n in enumerate(names)))
+
+
+def tests(text):
+    """Tests and lengths as they are known now: `.true` of `!x` says that x is false, and a field array's length is found by search."""
+    text = re.sub(r"\(not-(?:true|false) (?:_|\(_\)) (c\.if-not[\w-]*\.(?:true|false))\)", r"\1", text)
+    text = re.sub(r"not-(?:true|false) (?:_|\(_\)) (c\.if-not[\w-]*\.(?:true|false))", r"\1", text)
+    text = re.sub(r"search \(rules, [\w.]+\.well_formed[\w.]*\)", "search rules", text)
+    text = re.sub(r"search \(rules, c\.well-formed[\w.]*\)", "search rules", text)
+    return text
 
 
 def first_word(text):
@@ -241,7 +314,14 @@ def turn(crate, fn, names):
         if not unfold and rhs.strip() in ("search rules", "record { fits = search rules }", "omega arith"):
             dropped += 1
             continue
-        body = t.body(rhs)
+        body = tests(t.body(rhs))
+        own = clause_names(crate, fn.split("/")[-1])
+        if new.startswith("returns") and len(own) > 1:
+            turned = as_record(body, own)
+            if turned:
+                body = turned
+            else:
+                t.left.append("%s: a record of %s is wanted" % (new, ", ".join(own)))
         tail = "\n".join([""]) if True else ""
         answers.append("pub %s : goal.%s\n%s%s c =%s" % (new, new, unfold, new, body))
     module = "Rattle.%s.proofs.%s" % (crate, fn.replace("/", "."))
