@@ -1,11 +1,11 @@
 -- What `door` answers, told by the tests that lead there. Assumes nothing.
-use Rattle.std.specs.Prelude.{◌≡◌, refl, Bool, true, false, cond, List, [], ◌++◌, ℕ, ◌<◌, ◌≤◌, eqb, length, drop}
+use Rattle.std.specs.Prelude.{◌≡◌, refl, Bool, true, false, List, ◌++◌, ℕ, ◌<◌, ◌≤◌, length}
 use Rattle.std.proofs.Math.Path.{sym}
-use Rattle.std.proofs.Common.{ap, ◌∙◌, subst, append-nil, arith, drop_of_length-le}
-use borrow.Author.Tests.{eq-eqb, ne_eqb, eqb-true, lt-ltb, le-ltb}
+use Rattle.std.proofs.Common.{ap, ◌∙◌, subst, append-nil, drop_of_length-le}
+use borrow.Author.Tests.{eq-eqb, ne_eqb, lt-ltb, le-ltb}
 use Rattle.octets.specs.Lists.{over}
 use Rattle.octets.specs.Writes.{over-front}
-use Rattle.conversion.specs.Conversion.{each, made, converted, output_after}
+use Rattle.conversion.specs.Conversion.{each, converted, output_after}
 use Rattle.conversion.specs.Answers.{number_is}
 use Rattle.conversion.specs.declared.Converted.{Converted}
 use Rattle.binary.specs.Binary.{binary, bits_of}

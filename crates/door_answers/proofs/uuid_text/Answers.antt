@@ -1,0 +1,35 @@
+-- `uuid_text` meets its contract, by what `uuids::to_record` ensures. Assumes nothing.
+use mathlib.Core.Path.{ap, ◌∙◌}
+use mathlib.Core.List.{List, ◌++◌}
+use Prim.Native.Nat.{ℕ}
+use native.Mathlib.Omega.{arith}
+use lib.ListN.{replicate}
+use mathlib.Core.Bool.{false}
+use Rattle.hexadecimal.specs.Hexadecimal.{digits_of}
+use Rattle.uuids.specs.Uuid.{text_number, record_of}
+use Rattle.uuids.specs.Groups.{length-record}
+use Rattle.printing.specs.Printing.{ascii}
+use Rattle.door_answers.specs.Answer.{uuid_text}
+use Rattle.printing.specs.Laws.{written_as, written_next}
+use Rattle.door_answers.specs.Ways.{number-told, result-fault, result-made, output-made}
+use Rattle.std.proofs.Common.{rules}
+use Rattle.door_answers.proofs.uuid_text.Goals as goal
+
+pub returns-then-made-ne0 : goal.returns-then-made-ne0
+unfolding uuid_text
+returns-then-made-ne0 c =
+    let a = c.args in
+    let told = number-told (text_number a.line.now 16) (record_of a.line.now) c.to_record-made.ensures.value in
+    record { written = written_as a.out.now a.at (result-fault (text_number a.line.now 16) _ false told c.if-made-ne0.true) c.fault.ensures.written; upper_bound = search rules }
+
+pub returns : goal.returns
+unfolding uuid_text
+returns c =
+    let a = c.args in
+    let t = a.line.now in
+    let got = c.to_record-made in
+    let told = number-told (text_number t 16) (record_of t) got.ensures.value in
+    let long = length-record t c.requires.0 in
+    let made = output-made (text_number t 16) (record_of t) (replicate 16 0) told c.if-made-ne0.false (omega (arith, long)) got.ensures.out_after in
+    let two = written_next a.out.now a.at _ _ (search rules) c.put-a.ensures c.hex.ensures.written in
+    record { written = written_as a.out.now a.at (ap (λ (r : List ℕ). ascii " = record " ++ digits_of r) made ∙ result-made (text_number t 16) _ false told c.if-made-ne0.false) two; upper_bound = search rules }
