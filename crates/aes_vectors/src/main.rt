@@ -3,7 +3,7 @@
 // Runs NIST's response files for AES with keys of 128, 192 and 256 bits, ECB and CBC, in both directions. A file that cannot be read, and a
 // record that cannot, each gives a line of its own, as a block that differs does. A record whose key has not the length that the file's name
 // says is one that cannot be read.
-ghost use Rattle.std.specs.Prelude.{◌≤◌, length};
+ghost use Rattle.std.specs.Prelude.{◌≡◌, ◌≤◌, length};
 
 use aes_runs::{Mode, Ran, Tally};
 use std::io;
@@ -129,9 +129,16 @@ fn run_part(
     records(rt, name, &buf[0..n], kind)
 }
 
+// Room for a file. That it is so long is all that its callers know of it, so that no proof counts its bytes.
+fn room() -> [u8; 131072]
+    ensures { 131072 ≡ length result }
+{
+    [0; 131072]
+}
+
 // Runs a file of at most 131,071 bytes.
 fn run(rt: &(impl Files + Print), name: &[u8], kind: Kind) -> io::Result<Tally> {
-    let mut buf = [0u8; 131072];
+    let mut buf = room();
     let n = rsp::load(rt, name, &mut buf);
     let tally = run_part(rt, name, &buf, n, kind)?;
     tally.say(rt, name)?;

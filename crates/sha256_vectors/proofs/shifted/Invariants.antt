@@ -1,0 +1,9 @@
+-- `sha256_vectors::shifted` is safe and ends: the loop counts to 32, and every place read or written is below 96. Assumes nothing.
+use Rattle.std.proofs.Common.{◌-◌}
+use Rattle.sha256_vectors.proofs.shifted.Given as goal
+
+abbrev pub invariant-loop-i : goal.invariant-loop-i
+invariant-loop-i l = Unit {0}
+
+abbrev pub decreases-loop-i : goal.decreases-loop-i
+decreases-loop-i l = 32 - l.i
