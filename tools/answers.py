@@ -85,7 +85,7 @@ class Turned:
                     new.append(FIELDS.get(p, p))
                     level = "other"
             elif level == "step":
-                if p == "new":
+                if p == "new" and step:
                     k = 0
                     while i + 1 + k < len(parts) and parts[i + 1 + k] == "1":
                         k += 1
@@ -99,7 +99,7 @@ class Turned:
                         self.left.append("`%s.%s`: name the parameter after .new" % (root, ".".join(parts)))
                 else:
                     new.append(FIELDS.get(p, p))
-                    if p == "ensures" and i + 1 < len(parts) and parts[i + 1].isdigit():
+                    if step and p == "ensures" and i + 1 < len(parts) and parts[i + 1].isdigit():
                         callee = norm(step)
                         for word in (callee, re.sub(r"-?\d*$", "", callee)):
                             clauses = clause_names(self.crate, word.replace("-", "_"))

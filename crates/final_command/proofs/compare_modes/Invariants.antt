@@ -1,0 +1,22 @@
+-- `compare_modes` meets its contract. The invariant: the sum and the first match of the slots that are left make those of all (Slots). Assumes nothing.
+use mathlib.Core.Bool.{cond}
+use mathlib.Core.Path.{◌≡◌, ap, sym, ◌∙◌}
+use Prim.Native.Nat.{◌+◌, ◌-◌, ◌≤◌, ◌<◌}
+use native.Mathlib.Omega.{arith}
+use lib.ListN.{length, drop}
+use lib.Dec.{eqb}
+use Rattle.work.specs.Steps.{sum_from}
+use Rattle.steps.specs.Laws.{kept_next}
+use Rattle.final_command.specs.Final.{mode_steps, first_mode}
+use Rattle.final_command.proofs.Slots.{sum-turn, first-turn, found-same}
+use Rattle.final_command.proofs.compare_modes.Given as goal
+
+abbrev pub invariant-loop-i : goal.invariant-loop-i
+invariant-loop-i l =
+    (l.i ≤ 16)
+    × (l.count ≡ l.i)
+    × (sum_from l.s (mode_steps l.v (drop l.i l.modes)) ≡ sum_from l.sum (mode_steps l.v l.modes))
+    × (cond (eqb l.at 16) (first_mode l.i l.v (drop l.i l.modes)) l.at ≡ first_mode 0 l.v l.modes)
+
+abbrev pub decreases-loop-i : goal.decreases-loop-i
+decreases-loop-i l = 16 - l.i
