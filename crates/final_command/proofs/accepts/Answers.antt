@@ -8,7 +8,6 @@ use lib.Seq.{length-take-le}
 use lib.ListN.{length}
 use Rattle.octets.specs.Lists.{part}
 use Rattle.final_command.specs.Final.{accepting}
-use Rattle.std.proofs.Common.{rules}
 use Rattle.final_command.proofs.accepts.Goals as goal
 
 pub slice_bounds-sealed-end : goal.slice_bounds-sealed-end

@@ -1,15 +1,12 @@
 -- `compare_modes` meets its contract. The invariant: the sum and the first match of the slots that are left make those of all (Slots). Assumes nothing.
-use mathlib.Core.Bool.{cond}
 use mathlib.Core.Path.{◌≡◌, ap, sym, ◌∙◌}
-use Prim.Native.Nat.{◌+◌, ◌-◌, ◌≤◌, ◌<◌}
+use Prim.Native.Nat.{◌+◌, ◌<◌}
 use native.Mathlib.Omega.{arith}
 use lib.ListN.{length, drop}
-use lib.Dec.{eqb}
 use Rattle.work.specs.Steps.{sum_from}
 use Rattle.steps.specs.Laws.{kept_next}
-use Rattle.final_command.specs.Final.{mode_steps, first_mode}
+use Rattle.final_command.specs.Final.{mode_steps}
 use Rattle.final_command.proofs.Slots.{sum-turn, first-turn, found-same}
-use Rattle.std.proofs.Common.{rules}
 use Rattle.final_command.proofs.compare_modes.Goals as goal
 
 pub overflow_add-count : goal.overflow_add-count

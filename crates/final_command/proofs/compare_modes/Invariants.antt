@@ -1,14 +1,11 @@
 -- `compare_modes` meets its contract. The invariant: the sum and the first match of the slots that are left make those of all (Slots). Assumes nothing.
 use mathlib.Core.Bool.{cond}
-use mathlib.Core.Path.{◌≡◌, ap, sym, ◌∙◌}
-use Prim.Native.Nat.{◌+◌, ◌-◌, ◌≤◌, ◌<◌}
-use native.Mathlib.Omega.{arith}
-use lib.ListN.{length, drop}
+use mathlib.Core.Path.{◌≡◌}
+use Prim.Native.Nat.{◌-◌, ◌≤◌}
+use lib.ListN.{drop}
 use lib.Dec.{eqb}
 use Rattle.work.specs.Steps.{sum_from}
-use Rattle.steps.specs.Laws.{kept_next}
 use Rattle.final_command.specs.Final.{mode_steps, first_mode}
-use Rattle.final_command.proofs.Slots.{sum-turn, first-turn, found-same}
 use Rattle.final_command.proofs.compare_modes.Given as goal
 
 abbrev pub invariant-loop-i : goal.invariant-loop-i

@@ -1,0 +1,29 @@
+-- `diversify` meets its contract: one expansion, and the encipherments that follow it (Assembly). Assumes nothing.
+use mathlib.Core.Path.{◌≡◌, sym, ap, ◌∙◌}
+use native.Mathlib.Omega.{arith}
+use lib.ListN.{length}
+use lib.Seq.{length-take-le}
+use Rattle.key_expansion.specs.KeyLength.{length_most}
+use Rattle.aes.specs.Rows.{lent}
+use Rattle.final_command.proofs.Assembly.{derived-same}
+use Rattle.std.proofs.Common.{rules}
+use Rattle.final_command.proofs.diversify.Goals as goal
+
+pub slice_bounds-rows-end : goal.slice_bounds-rows-end
+slice_bounds-rows-end c =
+    let long : length c.round_keys-rows.result ≡ 15 = search rules in
+    omega (arith, length_most _ c.requires.1)
+
+pub slice_bounds-diversify-end : goal.slice_bounds-diversify-end
+slice_bounds-diversify-end c =
+    let long : length c.round_keys-rows.result ≡ 15 = search rules in
+    sym (length-take-le _ c.round_keys-rows.result (omega (arith, length_most _ c.requires.1)))
+
+pub diversify-k-requires : goal.diversify-k-requires
+diversify-k-requires c =
+    (c.requires.0, c.requires.1, lent c.args.fa.now (c.round_keys-rows.ensures ∙ ap (λ r. r.rows) c.expand-e.ensures))
+
+pub returns : goal.returns
+returns c =
+    let a = c.args in
+    derived-same a.fa.now a.div a.sum _ _ c.expand-e.ensures c.diversify-k.ensures
