@@ -68,5 +68,5 @@ function hex(digits,    i, value) {
 
 END {
     if (stopped) exit 1
-    for (name in frame) if (name ~ /^plaid_/) print name "=" bytes(name)
+    for (name in frame) if (name ~ /^plaid_[a-z_]*$/) print name "=" bytes(name)
 }
