@@ -75,5 +75,7 @@ library() {
 }
 # failure LOG: the end of what rt wrote, without its counts of the modules of its own libraries
 failure() { grep -v '^statements [a-z_]*: modules ' "$1" | tail -n 20; }
-# made FILE: has rt build the static library, and copies it
-made() { (cd "$top/crates/plaid_c" && rt lib && cp out/libplaid_c.a "$1.new" && mv "$1.new" "$1" && echo "the library is built"); }
+# made FILE: has rt build the static library, for any x86-64 processor, and copies it
+made() {
+    (cd "$top/crates/plaid_c" && rt lib --cpu x86-64 && cp out/libplaid_c.a "$1.new" && mv "$1.new" "$1" && echo "the library is built")
+}
