@@ -114,13 +114,7 @@ fn records(rt: &impl Print, name: &[u8], s: &[u8], kind: Kind) -> io::Result<Tal
 }
 
 // Runs the records of the first n bytes of `buf`.
-fn run_part(
-    rt: &impl Print,
-    name: &[u8],
-    buf: &[u8],
-    n: usize,
-    kind: Kind,
-) -> io::Result<Tally> {
+fn run_part(rt: &impl Print, name: &[u8], buf: &[u8], n: usize, kind: Kind) -> io::Result<Tally> {
     if buf.len() < n {
         rsp::say(rt, name)?;
         rsp::say(rt, b": cannot be read\n")?;
@@ -173,7 +167,7 @@ fn run_named(
         rt,
         &name[..e],
         Kind {
-            is_chained: mode == b"CBC",
+            is_chained: mode == b"CBC".as_slice(),
             key_length: rsp::decimal(bits, 0) / 8,
         },
     )
