@@ -1,0 +1,20 @@
+-- `speed::show_under` is safe: the key is as long as the test says. Assumes nothing.
+use Rattle.std.proofs.Common.{◌≡◌, true, sym, ◌∙◌, rules}
+use Rattle.key_expansion.specs.KeyLength.{is_key_length, length_most}
+use Rattle.key_expansion.specs.Parts.{key-part, key-good}
+use Rattle.speed.proofs.show_under.Goals as goal
+
+pub slice_bounds-key-end : goal.slice_bounds-key-end
+slice_bounds-key-end g c =
+    let e : is_key_length c.args.n ≡ true = sym c.is_key_length.ensures ∙ c.if-not-is_key_length.false in
+    search (rules, length_most c.args.n e)
+
+pub slice_bounds-under-end : goal.slice_bounds-under-end
+slice_bounds-under-end g c =
+    let e : is_key_length c.args.n ≡ true = sym c.is_key_length.ensures ∙ c.if-not-is_key_length.false in
+    sym (key-part c.args.n e _ (search rules))
+
+pub under-requires : goal.under-requires
+under-requires g c =
+    let e : is_key_length c.args.n ≡ true = sym c.is_key_length.ensures ∙ c.if-not-is_key_length.false in
+    key-good c.args.n e _ (search rules)
