@@ -4,8 +4,5 @@ use Prim.Native.Nat.{◌-◌}
 use lib.ListN.{length}
 use Rattle.rsp.proofs.field.Given as goal
 
-abbrev pub invariant-loop-j : goal.invariant-loop-j
-invariant-loop-j l = Unit {0}
-
 abbrev pub decreases-loop-j : goal.decreases-loop-j
 decreases-loop-j l = length l.s - l.j

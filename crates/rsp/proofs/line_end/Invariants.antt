@@ -3,8 +3,5 @@ use Prim.Native.Nat.{◌-◌}
 use lib.ListN.{length}
 use Rattle.rsp.proofs.line_end.Given as goal
 
-abbrev pub invariant-loop-e : goal.invariant-loop-e
-invariant-loop-e l = Unit {0}
-
 abbrev pub decreases-loop-e : goal.decreases-loop-e
 decreases-loop-e l = length l.s - l.e
