@@ -269,14 +269,14 @@ typedef char plaid_size_is_64_bits[sizeof(size_t) == 8 ? 1 : -1];
  * the library's machine code reserves, written or not, in its deepest chain
  * of calls. It is the greater of the two, in whole sixteens.
  */
-#define PLAID_STACK_LOAD 7152
-#define PLAID_STACK_LOAD_SETS 9040
-#define PLAID_STACK_COMMAND 9296
+#define PLAID_STACK_LOAD 14320
+#define PLAID_STACK_LOAD_SETS 15712
+#define PLAID_STACK_COMMAND 15600
 #define PLAID_STACK_READ_TRIES 1872
-#define PLAID_STACK_LIST 96
-#define PLAID_STACK_OPEN 208
-#define PLAID_STACK_SEAL 1680
-#define PLAID_STACK_ACCEPT 1296
+#define PLAID_STACK_LIST 112
+#define PLAID_STACK_OPEN 320
+#define PLAID_STACK_SEAL 1872
+#define PLAID_STACK_ACCEPT 1280
 #define PLAID_STACK_RECORD 16
 #define PLAID_STACK_WIEGAND_RECORD 112
 #define PLAID_STACK_WIEGAND_TEXT 80
