@@ -5,7 +5,8 @@
 # A function's own frame is its return address, what it pushes and what it takes off the stack pointer. Below it stands the deepest function
 # that it calls, or what it uses of the ABI's red zone: the furthest place below the stack pointer that an address in it starts from.
 # Of memcpy and memset, which are not the library's, the return address is counted. Machine code that this cannot follow ends it with an
-# error: a call or a jump through a pointer, the stack pointer changed in another way, a function that calls itself.
+# error: a call or a jump through a pointer, the stack pointer changed in another way, a function that calls itself. A frame of some thousand
+# bytes is taken in steps, so that each page is touched; where a loop does that, which compares the stack pointer, it ends with an error, too.
 
 function stop(text) {
     print "frames.awk: " text >"/dev/stderr"
@@ -55,7 +56,8 @@ $2 == "sub" && $3 ~ /^\$0x[0-9a-f]+,%rsp$/ {
     next
 }
 $2 == "add" && $3 ~ /^\$0x[0-9a-f]+,%rsp$/ || $2 == "pop" { next }
-/%rsp$/ && $2 !~ /^(cmp|test)/ { stop("the stack pointer is changed: " $0) }
+/%rsp$/ && $2 ~ /^cmp/ { stop("the stack pointer is compared, as where a loop takes from it: " $0) }
+/%rsp$/ && $2 !~ /^test/ { stop("the stack pointer is changed: " $0) }
 match($0, /-0x[0-9a-f]+\(%rsp/) {
     below = hex(substr($0, RSTART + 3, RLENGTH - 8))
     if (below > zone[here]) zone[here] = below
