@@ -83,7 +83,27 @@ int64_t rattle_arg(uint64_t i, char *buffer, uint64_t room)
 	return (int64_t)n;
 }
 
+/* No call fails here, and no signal comes. */
 void rattle_set_errno(int error)
 {
 	(void)error;
+}
+
+int rattle_errno(void)
+{
+	return 0;
+}
+
+int64_t __sysv_signal(int number, int64_t action)
+{
+	(void)number;
+	return action;
+}
+
+int __xpg_strerror_r(int error, char *text, uint64_t room)
+{
+	(void)error;
+	if (room > 0)
+		*text = 0;
+	return 0;
 }
