@@ -29,7 +29,7 @@ use Rattle.plaid_types.specs.declared.Outcome.{Outcome}
 use Rattle.plaid_types.specs.declared.KeySet.{KeySet}
 use Rattle.load.specs.Load.{table_of}
 use Rattle.key_change.specs.KeyChange.{sets_loaded, takes_sets}
-use Rattle.key_change.specs.Laws.{after-by, only-table, in-state, new-table}
+use Rattle.key_change.proofs.Laws.{after-by, only-table, in-state, new-table}
 use Rattle.card.specs.Command.{reply_to, refuses_final, told, done, undone, verdict_on, outcome, answer_bytes}
 use Rattle.card.specs.After.{refused_try}
 use Rattle.card.specs.Unseen.{reply-unseen}

@@ -16,7 +16,7 @@ use Rattle.plaid_types.specs.declared.Card.{Card}
 use Rattle.plaid_types.specs.declared.Outcome.{Outcome}
 use Rattle.final_command.specs.Final.{fa_key_of, rnd1_of, diversified, text_of, hashed_of, card_keys_hash, mode_of, deciphered_text, accepts_final, reply_key, size_of, reply_buffer, final_bytes, final_steps, final_reply}
 use Rattle.key_change.specs.KeyChange.{sets_loaded}
-use Rattle.key_change.specs.Laws.{only-table}
+use Rattle.key_change.proofs.Laws.{only-table}
 use Rattle.card.specs.Command.{reply_to, refuses_final, done, undone, verdict_on, outcome, answer_bytes}
 use Rattle.card.specs.Lists.{Call, outcome_of, bytes_of, key_sets, card_after, is_initial}
 

@@ -20,7 +20,7 @@ use Rattle.plaid_types.specs.declared.Outcome.{Outcome}
 use Rattle.initial.specs.Initial.{accepts_initial}
 use Rattle.final_command.specs.Final.{accepts_final}
 use Rattle.key_change.specs.KeyChange.{sets_loaded}
-use Rattle.key_change.specs.Laws.{only-table, in-state}
+use Rattle.key_change.proofs.Laws.{only-table, in-state}
 use Rattle.card.specs.Command.{reply_to, refuses_final, told, declined, done, undone, verdict_on, outcome, answer_bytes}
 use Rattle.card.specs.After.{refused_try}
 use Rattle.card.specs.Unseen.{reply-unseen}

@@ -32,7 +32,7 @@ use Rattle.plaid_types.specs.declared.Session.{Session}
 use Rattle.plaid_types.specs.declared.Tries.{Tries}
 use Rattle.plaid_types.specs.declared.Card.{Card}
 use Rattle.load.specs.Load.{past_mode, reply_size_for, refusal, sets_refusal, modes_refusal, loaded}
-use Rattle.load.specs.Laws.{size_below, stocked-state}
+use Rattle.load.proofs.Laws.{size_below, stocked-state}
 use Rattle.frame.specs.Frame.{frame_of, initial_ins, ins_of, lc_of, known_ins, whole, status_of, data_of}
 use Rattle.frame.specs.Laws.{frame_byte}
 use Rattle.frame.specs.Framed.{framed-status, framed-data}

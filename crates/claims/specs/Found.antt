@@ -13,7 +13,7 @@ use Rattle.plaid_types.specs.declared.KeySetSlot.{KeySetSlot}
 use Rattle.plaid_types.specs.declared.ModeSlot.{ModeSlot}
 use Rattle.plaid_types.specs.declared.Card.{Card}
 use Rattle.load.specs.Load.{some}
-use Rattle.load.specs.Laws.{some-none, set_at, mode_at, Stocked}
+use Rattle.load.proofs.Laws.{some-none, set_at, mode_at, Stocked}
 use Rattle.initial.specs.Initial.{first_slot}
 use Rattle.final_command.specs.Final.{first_mode}
 use Rattle.reader_list.specs.List.{given, list_command, list_number, listed, list_output}

@@ -8,7 +8,7 @@ use Rattle.plaid_types.specs.Cards.{no_session, with_sets}
 use Rattle.plaid_types.specs.declared.Session.{Session}
 use Rattle.plaid_types.specs.declared.Card.{Card}
 use Rattle.load.specs.Load.{table_of}
-use Rattle.load.specs.Laws.{Stocked, stocked-state}
+use Rattle.load.proofs.Laws.{Stocked, stocked-state}
 use Rattle.card.specs.Lists.{Place, card_after, load_after, session_after}
 use Rattle.card.specs.Demand3.{LoadedAs, after-loaded, session-after}
 use Rattle.session.specs.Kept.{OpenedBy, Lawful, none-lawful, after-lawful, load-stocked}

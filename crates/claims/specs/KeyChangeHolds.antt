@@ -13,9 +13,9 @@ use Rattle.plaid_types.specs.declared.KeySet.{KeySet}
 use Rattle.plaid_types.specs.declared.Card.{Card}
 use Rattle.plaid_types.specs.declared.Outcome.{Outcome}
 use Rattle.load.specs.Load.{sets_refusal, refusal, table_of}
-use Rattle.load.specs.Laws.{load-number, right-none}
+use Rattle.load.proofs.Laws.{load-number, right-none}
 use Rattle.key_change.specs.KeyChange.{change_refusal, sets_loaded, takes_sets}
-use Rattle.key_change.specs.Laws.{sets-number, card-after, only-table, sets-refused}
+use Rattle.key_change.proofs.Laws.{sets-number, card-after, only-table, sets-refused}
 use Rattle.card.specs.Lists.{Call, outcome_of, bytes_of, Place, command, key_sets, card_after, is_initial}
 use Rattle.card.specs.KeyChange.{loads-table, final-outcome, final-bytes}
 use Rattle.plaid.specs.Interface.{load_of}

@@ -20,7 +20,7 @@ use Rattle.plaid_types.specs.declared.Session.{Session}
 use Rattle.plaid_types.specs.declared.Tries.{Tries}
 use Rattle.plaid_types.specs.declared.Card.{Card}
 use Rattle.load.specs.Load.{past_set, past_mode, refusal, bad_record, largest_size, filled, set_slot, table_of, mode_slot, loaded_card}
-use Rattle.load.specs.Laws.{neither, some-none, SetsRight, Accepted, accepted, slot_at, set_at, mode_at, set-held, mode-held, set_given, mode-given, IsLoaded, is-loaded, load-made, load-number, stocked-length, key-kept}
+use Rattle.load.proofs.Laws.{neither, some-none, SetsRight, Accepted, accepted, slot_at, set_at, mode_at, set-held, mode-held, set_given, mode-given, IsLoaded, is-loaded, load-made, load-number, stocked-length, key-kept}
 use Rattle.load.specs.declared.Loaded.{Loaded}
 use Rattle.card.specs.Demand3.{Sound}
 use Rattle.plaid.specs.Interface.{load_of}

@@ -18,7 +18,7 @@ use Rattle.plaid_types.specs.declared.OpModeId.{OpModeId}
 use Rattle.plaid_types.specs.declared.ModeSlot.{ModeSlot}
 use Rattle.plaid_types.specs.declared.Card.{Card}
 use Rattle.load.specs.Load.{past_mode, mode_slot}
-use Rattle.load.specs.Laws.{mode_at}
+use Rattle.load.proofs.Laws.{mode_at}
 use Rattle.final_command.specs.Final.{text_of, card_keys_hash, op_mode, first_mode, mode_of, accepts_final, body_of, final_reply}
 use Rattle.card.specs.Command.{verdict_on, reply_to, answer_bytes}
 use Rattle.card.specs.Lists.{Call, Place, bytes_of, is_declined, is_initial, accepted}

@@ -16,7 +16,7 @@ use Rattle.plaid_types.specs.declared.Session.{Session}
 use Rattle.plaid_types.specs.declared.OpModeId.{OpModeId}
 use Rattle.plaid_types.specs.declared.Card.{Card}
 use Rattle.load.specs.Load.{past_set, set_slot, table_of}
-use Rattle.load.specs.Laws.{slot_at, set_at, set-held, set_given}
+use Rattle.load.proofs.Laws.{slot_at, set_at, set-held, set_given}
 use Rattle.initial.specs.Initial.{slot_of}
 use Rattle.final_command.specs.Final.{fa_key_of, rnd1_of, accepts_final}
 use Rattle.card.specs.Command.{verdict_on}

@@ -30,7 +30,7 @@ pub record Exchange : Type 0 where
   pub load : Load
   pub before : List Place
   -- T-04: the reader's L, which Open, Seal and Accept get
-  pub is_key_length : ℕ
+  pub key_length : ℕ
   -- the reader's KeySetIDs, the first `count`, and the buffer that List gets
   pub ids : List KeySetId
   pub count : ℕ
@@ -82,14 +82,14 @@ module _ (e : Exchange) where
 
   -- Open
   abbrev pub open₁ : Opened
-  open₁ = opened e.is_key_length e.ids e.count e.blocks
+  open₁ = opened e.key_length e.ids e.count e.blocks
 
   -- Seal, "with DivData and RND1 as Open gave them", and the command that it wrote
   abbrev pub seal : Sealed
-  seal = sealed_of e.is_key_length e.fa_key open₁.div_data open₁.rnd1 e.rnd2 e.mode e.payload (length e.seal_out)
+  seal = sealed_of e.key_length e.fa_key open₁.div_data open₁.rnd1 e.rnd2 e.mode e.payload (length e.seal_out)
 
   abbrev pub command₂ : List ℕ
-  command₂ = part (seal_output e.is_key_length e.fa_key open₁.div_data open₁.rnd1 e.rnd2 e.mode e.payload e.seal_out) 0 seal.length
+  command₂ = part (seal_output e.key_length e.fa_key open₁.div_data open₁.rnd1 e.rnd2 e.mode e.payload e.seal_out) 0 seal.length
 
   -- the card that it reaches: "the card gets no other command in between", but by T-07 loads of key sets
   abbrev pub card₂ : Card
@@ -104,10 +104,10 @@ module _ (e : Exchange) where
 
   -- Accept, and the part of the work buffer that it returns
   abbrev pub accept : Accepted
-  accept = accepted_of e.is_key_length seal.keys_hash open₁.div_data e.record_length answer₂ (length e.work)
+  accept = accepted_of e.key_length seal.keys_hash open₁.div_data e.record_length answer₂ (length e.work)
 
   abbrev pub returned : List ℕ
-  returned = record_part (work_after e.is_key_length seal.keys_hash open₁.div_data e.record_length answer₂ e.work) accept
+  returned = record_part (work_after e.key_length seal.keys_hash open₁.div_data e.record_length answer₂ e.work) accept
 
   -- the conditions of the promise, in the words of document 01, T-01, T-04, T-06 and T-07
   pub record Conditions : Type 0 where
@@ -123,7 +123,7 @@ module _ (e : Exchange) where
     -- "platform decryption undoes encryption for it"
     pub decrypted : block_at e.blocks place ≡ answer₁
     -- "no earlier entry's block opens"
-    pub none-opens : (i : ℕ) → i < place → opens_as e.is_key_length (get_or e.ids i no_id) (block_at e.blocks i) ≡ false
+    pub none-opens : (i : ℕ) → i < place → opens_as e.key_length (get_or e.ids i no_id) (block_at e.blocks i) ≡ false
     -- "the mode is held": it is the load's mode at `at`
     pub at : ℕ
     pub mode-loaded : at < e.load.given.mode_count

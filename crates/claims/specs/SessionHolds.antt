@@ -23,7 +23,7 @@ use Rattle.plaid_types.specs.declared.ModeSlot.{ModeSlot}
 use Rattle.plaid_types.specs.declared.Card.{Card}
 use Rattle.plaid_types.specs.declared.Outcome.{Outcome}
 use Rattle.load.specs.Load.{past_set, past_mode, some, set_slot, table_of, mode_slot}
-use Rattle.load.specs.Laws.{map-take, slot_at, set_at, mode_at, set-held, set_given, Stocked}
+use Rattle.load.proofs.Laws.{map-take, slot_at, set_at, mode_at, set-held, set_given, Stocked}
 use Rattle.list.specs.Encoding.{encoded}
 use Rattle.list.specs.Meaning.{encoded-encodes}
 use Rattle.initial.specs.Initial.{slot_of}
@@ -115,23 +115,23 @@ module _ (e : Exchange) (k : Conditions e) where
       (record { below = below; kept = slot_held; id = slot-id })
 
   -- Seal takes a FAKey of the reader's L, and a load one of the card's: the two are one
-  seen : Sealable e.is_key_length e.fa_key (open₁ e).rnd1 e.rnd2 (length e.payload) (length e.seal_out)
-  seen = seal-seen e.is_key_length e.fa_key (open₁ e).div_data (open₁ e).rnd1 e.rnd2 e.mode e.payload e.seal_out k.seal-done
+  seen : Sealable e.key_length e.fa_key (open₁ e).rnd1 e.rnd2 (length e.payload) (length e.seal_out)
+  seen = seal-seen e.key_length e.fa_key (open₁ e).div_data (open₁ e).rnd1 e.rnd2 e.mode e.payload e.seal_out k.seal-done
 
-  most : e.is_key_length ≤ 32
-  most = length_most e.is_key_length seen.length-one
+  most : e.key_length ≤ 32
+  most = length_most e.key_length seen.length-one
 
-  one-length : e.is_key_length ≡ e.load.given.key_length
+  one-length : e.key_length ≡ e.load.given.key_length
   one-length =
       let n : ℕ = e.load.given.key_length in
-      sym (length-bytes e.is_key_length e.fa_key most k.key-typed.long seen.key_right)
+      sym (length-bytes e.key_length e.fa_key most k.key-typed.long seen.key_right)
       ∙ sym (ap length k.same_key)
       ∙ length-bytes n (get_or (sets e) k.set past_set).fa_key (length_most n (length_three e.load))
       (sets-typed e.load e.before k.before-typed k.set k.set-loaded).long (set-length e.load e.before k.set k.set-loaded)
 
-  key-is : keys.held e.is_key_length (set_at (card e) (slot_of (card e) (encoded (given e.ids e.count)))).fa_key ≡ bytes_of e.fa_key
+  key-is : keys.held e.key_length (set_at (card e) (slot_of (card e) (encoded (given e.ids e.count)))).fa_key ≡ bytes_of e.fa_key
   key-is =
-      ap (keys.held e.is_key_length)
+      ap (keys.held e.key_length)
       (sym (ap (λ (s : List ℕ). (set_at (card e) (slot_of (card e) (encoded s))).fa_key) numbers-are) ∙ ap (λ (j : ℕ). (set_at (card e) j).fa_key) found-slot)
       ∙ ap₂ (λ (n : ℕ) (x : Card). keys.held n (set_at x k.set).fa_key) one-length kp.same
       ∙ fa-key-held e.load e.before k.set k.set-loaded k.before-typed
@@ -162,18 +162,18 @@ module _ (e : Exchange) (k : Conditions e) where
   sent₁ = list-sent e.ids e.count e.list_out k.list_done
 
   cmd₂ : List ℕ
-  cmd₂ = sealed_command e.is_key_length e.fa_key (open₁ e).div_data (open₁ e).rnd1 e.rnd2 e.mode e.payload
+  cmd₂ = sealed_command e.key_length e.fa_key (open₁ e).div_data (open₁ e).rnd1 e.rnd2 e.mode e.payload
 
   sent₂ : (command₂ e) ≡ cmd₂
   unfolding cmd₂
-  sent₂ = seal-sent e.is_key_length e.fa_key (open₁ e).div_data (open₁ e).rnd1 e.rnd2 e.mode e.payload e.seal_out k.seal-done
+  sent₂ = seal-sent e.key_length e.fa_key (open₁ e).div_data (open₁ e).rnd1 e.rnd2 e.mode e.payload e.seal_out k.seal-done
 
   hash : Value
-  hash = value_of (keys_hash_of e.is_key_length (bytes_of (open₁ e).rnd1) (bytes_of e.rnd2))
+  hash = value_of (keys_hash_of e.key_length (bytes_of (open₁ e).rnd1) (bytes_of e.rnd2))
 
   hash-is : (seal e).keys_hash ≡ hash
   unfolding hash
-  hash-is = seal-hash e.is_key_length e.fa_key (open₁ e).div_data (open₁ e).rnd1 e.rnd2 e.mode e.payload e.seal_out k.seal-done
+  hash-is = seal-hash e.key_length e.fa_key (open₁ e).div_data (open₁ e).rnd1 e.rnd2 e.mode e.payload e.seal_out k.seal-done
 
   next : Card
   next = (outcome (card e) e.interface₁ cmd₁ e.fresh₁ e.room₁).card
@@ -190,7 +190,7 @@ module _ (e : Exchange) (k : Conditions e) where
   unfolding cmd₂ last
   ends_so =
       ap (λ (i : ℕ). eqb i initial_ins)
-      (seal-ins e.is_key_length (bytes_of e.fa_key) (open₁ e).div_data (bytes_of (open₁ e).rnd1) (bytes_of e.rnd2) e.mode e.payload)
+      (seal-ins e.key_length (bytes_of e.fa_key) (open₁ e).div_data (bytes_of (open₁ e).rnd1) (bytes_of e.rnd2) e.mode e.payload)
 
   table₂ : List KeySetSlot
   table₂ = (card₂ e).sets
@@ -211,16 +211,16 @@ module _ (e : Exchange) (k : Conditions e) where
       ap₂ (λ (x : Card) (y : List ℕ). (outcome x e.interface₂ y e.fresh₂ e.room₂).answer.number) reached sent₂
       ∙ ap (λ (o : Outcome). o.answer.number) (final-outcome next table₂ (last cmd₂) ends_so)
 
-  accept-is : (accept e) ≡ accepted_of e.is_key_length hash (open₁ e).div_data e.record_length (answer_bytes next e.interface₂ cmd₂ e.fresh₂ e.room₂) (length e.work)
-  accept-is = ap₂ (λ (h : Value) (a : List ℕ). accepted_of e.is_key_length h (open₁ e).div_data e.record_length a (length e.work)) hash-is answer-is
+  accept-is : (accept e) ≡ accepted_of e.key_length hash (open₁ e).div_data e.record_length (answer_bytes next e.interface₂ cmd₂ e.fresh₂ e.room₂) (length e.work)
+  accept-is = ap₂ (λ (h : Value) (a : List ℕ). accepted_of e.key_length h (open₁ e).div_data e.record_length a (length e.work)) hash-is answer-is
 
-  conditions : promise.Conditions e.is_key_length (card e) e.ids e.count e.interface₁ e.fresh₁ e.room₁ e.blocks (bytes_of e.fa_key) (bytes_of e.rnd2) e.payload e.mode e.interface₂ e.fresh₂ e.room₂ e.record_length e.work
+  conditions : promise.Conditions e.key_length (card e) e.ids e.count e.interface₁ e.fresh₁ e.room₁ e.blocks (bytes_of e.fa_key) (bytes_of e.rnd2) e.payload e.mode e.interface₂ e.fresh₂ e.room₂ e.record_length e.work
   unfolding ids cmd₁ cmd₂ next hash
   conditions =
       record {
         stocked = g;
         one-length = one-length ∙ sym (ap (λ (x : Card). x.key_length) kp.same ∙ length-given e.load);
-        rnd2-long = length-bytes e.is_key_length e.rnd2 most k.rnd2-typed.long seen.rnd2-right;
+        rnd2-long = length-bytes e.key_length e.rnd2 most k.rnd2-typed.long seen.rnd2-right;
         list-room = length e.list_out;
         list-made = list-number e.ids e.count e.list_out k.list_done;
         first-call = sym (ap (λ (x : List ℕ). (outcome (card e) e.interface₁ x e.fresh₁ e.room₁).answer.number) sent₁) ∙ k.first_done;
@@ -247,7 +247,7 @@ module _ (e : Exchange) (k : Conditions e) where
   unfolding ids cmd₁ cmd₂ next hash
   numbered =
       accept-is
-      ∙ promise.session-number e.is_key_length (card e) e.ids e.count e.interface₁ e.fresh₁ e.room₁ e.blocks (bytes_of e.fa_key) (bytes_of e.rnd2) e.payload e.mode e.interface₂ e.fresh₂ e.room₂ e.record_length e.work conditions
+      ∙ promise.session-number e.key_length (card e) e.ids e.count e.interface₁ e.fresh₁ e.room₁ e.blocks (bytes_of e.fa_key) (bytes_of e.rnd2) e.payload e.mode e.interface₂ e.fresh₂ e.room₂ e.record_length e.work conditions
 
   promised : Promised e k
   unfolding ids cmd₁ cmd₂ next hash
@@ -257,8 +257,8 @@ module _ (e : Exchange) (k : Conditions e) where
         number = ap (λ (a : Accepted). a.number) numbered;
         record-length = ap (λ (a : Accepted). a.length) numbered ∙ ap (λ (s : ModeSlot). s.len) sealed-slot;
         record-returned =
-            ap₂ (λ (h : Value) (a : List ℕ). record_part (work_after e.is_key_length h (open₁ e).div_data e.record_length a e.work) (accepted_of e.is_key_length h (open₁ e).div_data e.record_length a (length e.work))) hash-is answer-is
-            ∙ promise.session-record e.is_key_length (card e) e.ids e.count e.interface₁ e.fresh₁ e.room₁ e.blocks (bytes_of e.fa_key) (bytes_of e.rnd2) e.payload e.mode e.interface₂ e.fresh₂ e.room₂ e.record_length e.work conditions
+            ap₂ (λ (h : Value) (a : List ℕ). record_part (work_after e.key_length h (open₁ e).div_data e.record_length a e.work) (accepted_of e.key_length h (open₁ e).div_data e.record_length a (length e.work))) hash-is answer-is
+            ∙ promise.session-record e.key_length (card e) e.ids e.count e.interface₁ e.fresh₁ e.room₁ e.blocks (bytes_of e.fa_key) (bytes_of e.rnd2) e.payload e.mode e.interface₂ e.fresh₂ e.room₂ e.record_length e.work conditions
             ∙ ap (λ (s : ModeSlot). part (card e).area s.start s.len) sealed-slot
             ∙ ap (λ (a : List ℕ). part a m.start m.len) (ap (λ (x : Card). x.area) kp.same)
             ∙ record-given e.load k.at k.mode-loaded;

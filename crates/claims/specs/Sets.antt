@@ -8,9 +8,9 @@ use Rattle.plaid_types.specs.Cards.{with_sets}
 use Rattle.plaid_types.specs.declared.KeySet.{KeySet}
 use Rattle.plaid_types.specs.declared.Card.{Card}
 use Rattle.load.specs.Load.{past_set, table_of}
-use Rattle.load.specs.Laws.{slot_at, SetsRight, set-right, set-kept}
+use Rattle.load.proofs.Laws.{slot_at, SetsRight, set-right, set-kept}
 use Rattle.key_change.specs.KeyChange.{sets_loaded, takes_sets}
-use Rattle.key_change.specs.Laws.{card-after, change-right}
+use Rattle.key_change.proofs.Laws.{card-after, change-right}
 use Rattle.card.specs.Lists.{Place, command, key_sets, load_after}
 use Rattle.claims.specs.Load.{Load, TypedSets, TypedPlaces, card_of, sets_after, sets_at}
 use Rattle.claims.specs.Loaded.{table-given, sets-shown, length-is, handle-given}

@@ -167,7 +167,7 @@ module _ (k : ℕ) (three : is_key_length k ≡ true) (payload : List ℕ) where
       record {
         load = one-two k three;
         before = past k;
-        is_key_length = k;
+        key_length = k;
         ids = record { 0 = 8 } ∷ record { 0 = 2 } ∷ replicate 14 no_id;
         count = 2;
         list_out = replicate 16 0;

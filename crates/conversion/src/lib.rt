@@ -13,7 +13,7 @@ pub struct Converted {
     pub length: usize,
 }
 
-// Whether an input of so many bytes is no input of `wanted`, or an output of `room` bytes too short for a result of `result`.
+// Whether an input of so many bytes is no input of `wanted`, or an output of `room` bytes too short for a result of `res`.
 #[tactic(auto, unfolding(crate::specs::Conversion::misfit))]
 pub fn misfit(input: usize, wanted: usize, room: usize, res: usize) -> bool
     ensures { result ≡ misfit input wanted room res }

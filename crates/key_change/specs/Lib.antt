@@ -1,2 +1,1 @@
 pub mod KeyChange
-pub mod Laws

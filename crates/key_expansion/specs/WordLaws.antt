@@ -5,7 +5,8 @@ use Rattle.std.specs.Int.Bits.{bit_xor, xor_zero_r}
 use Rattle.octets.specs.Tests.{both}
 use Rattle.field.specs.Linear.{xor-byte}
 use Rattle.sbox.specs.SubBytes.{sbox}
-use Rattle.sbox.specs.Rule.{sbox_table, table_at, sbox-lt}
+use Rattle.sbox.specs.Rule.{sbox_table, table_at}
+use Rattle.sbox.proofs.Undo.{sbox-lt}
 use Rattle.column.specs.Word as column
 use Rattle.column.specs.Word.{word_of, byte_at}
 use Rattle.column.specs.Laws.{byte-lt, byte_of, xor_bytes}

@@ -14,7 +14,7 @@ use Rattle.octets.specs.Tests.{both}
 use Rattle.octets.specs.ByteLists.{append-bytes}
 use Rattle.field.specs.Linear.{x_times-lt, xor-byte}
 use Rattle.sbox.specs.SubBytes.{sbox}
-use Rattle.sbox.specs.Rule.{sbox-lt}
+use Rattle.sbox.proofs.Undo.{sbox-lt}
 use Rattle.key_expansion.specs.KeyExpansion.{word, rot_word, sub_word, xor_word, power, rcon, pick, temp, next_word, words, key_expansion, round_key, round_keys}
 
 pub word-bytes : (f : ℕ → ℕ) → ((i : ℕ) → f i < 256) → Bytes (word f)

@@ -11,7 +11,7 @@ use lib.ListN.{length, get_or, take, drop, set, replicate, length-take, drop_of_
 use lib.Seq.{length-take-le, drop-cons, get_or-take, take_all, paste, paste-suc}
 use Rattle.plaid_types.specs.declared.Mode.{Mode}
 use Rattle.load.specs.Load.{past_mode, some, repeated, reply_size_for, larger, largest_size, filled}
-use Rattle.load.specs.Laws.{larger-assoc, larger-than-none, map-take}
+use Rattle.load.proofs.Laws.{larger-assoc, larger-than-none, map-take}
 
 -- what the i-th of the first n elements leaves behind it
 next : {A : Type 0} (l : List A) (n i : ℕ) (d : A) → i < n → n ≤ length l → drop i (take n l) ≡ get_or l i d ∷ drop (i + 1) (take n l)

@@ -9,9 +9,9 @@ use Rattle.octets.specs.Lists.{table, tabled}
 use Rattle.plaid_types.specs.declared.KeySet.{KeySet}
 use Rattle.plaid_types.specs.declared.Card.{Card}
 use Rattle.load.specs.Load.{loaded}
-use Rattle.load.specs.Laws.{counted-only}
+use Rattle.load.proofs.Laws.{counted-only}
 use Rattle.key_change.specs.KeyChange.{changed, sets_loaded}
-use Rattle.key_change.specs.Laws.{change-counted}
+use Rattle.key_change.proofs.Laws.{change-counted}
 use Rattle.key_set_list.specs.First.{blank_set, eight_of}
 use Rattle.plaid.specs.Interface.{load_of}
 use Rattle.plaid.specs.declared.Given.{Given}

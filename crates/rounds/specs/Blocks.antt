@@ -8,7 +8,7 @@ use Rattle.field.specs.Matrix.{row_times}
 use Rattle.field.specs.Linear.{row_times-lt, xor-byte}
 use Rattle.sbox.specs.SubBytes.{sbox}
 use Rattle.sbox.specs.InvSubBytes.{inv_sbox}
-use Rattle.sbox.specs.Rule.{sbox-lt, inv_sbox-lt}
+use Rattle.sbox.proofs.Undo.{sbox-lt, inv_sbox-lt}
 use Rattle.rounds.specs.State.{cell, state}
 use Rattle.rounds.specs.Cipher.{sub_bytes, shift_rows, columns_times, add_round_key}
 use Rattle.rounds.specs.InvCipher.{inv_sub_bytes, inv_shift_rows}

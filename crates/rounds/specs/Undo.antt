@@ -12,7 +12,7 @@ use Rattle.field.specs.Matrix.{row_times}
 use Rattle.field_laws.specs.Undo.{inv-mix, mix-inv}
 use Rattle.sbox.specs.SubBytes.{sbox}
 use Rattle.sbox.specs.InvSubBytes.{inv_sbox}
-use Rattle.sbox.specs.Rule.{inv-of-sbox, sbox-of-inv}
+use Rattle.sbox.proofs.Undo.{inv-of-sbox, sbox-of-inv}
 use Rattle.rounds.specs.State.{cell}
 use Rattle.rounds.specs.Cipher.{sub_bytes, shift_rows, columns_times, mix_columns, add_round_key, round, rounds, last_round, cipher}
 use Rattle.rounds.specs.InvCipher.{inv_sub_bytes, inv_shift_rows, inv_mix_columns, inv_round, inv_rounds, inv_last_round, inv_cipher}

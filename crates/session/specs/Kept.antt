@@ -12,8 +12,8 @@ use Rattle.plaid_types.specs.Cards.{no_session, no_set}
 use Rattle.plaid_types.specs.declared.KeySetSlot.{KeySetSlot}
 use Rattle.plaid_types.specs.declared.Session.{Session}
 use Rattle.plaid_types.specs.declared.Card.{Card}
-use Rattle.load.specs.Laws.{Stocked, set_at}
-use Rattle.key_change.specs.Laws.{stocked-after}
+use Rattle.load.proofs.Laws.{Stocked, set_at}
+use Rattle.key_change.proofs.Laws.{stocked-after}
 use Rattle.initial.specs.Initial.{slot_of, accepts_initial, opened_with, accepted_initial, refused_initial, initial_reply}
 use Rattle.initial.specs.Laws.{initial-rnd1, initial-key}
 use Rattle.card.specs.Command.{verdict_on}

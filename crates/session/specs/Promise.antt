@@ -23,7 +23,7 @@ use Rattle.plaid_types.specs.declared.KeySetSlot.{KeySetSlot}
 use Rattle.plaid_types.specs.declared.Session.{Session}
 use Rattle.plaid_types.specs.declared.Card.{Card}
 use Rattle.load.specs.Load.{some, repeated}
-use Rattle.load.specs.Laws.{map-take, GoodRecord, Stocked, stocked-length, stocked-state}
+use Rattle.load.proofs.Laws.{map-take, GoodRecord, Stocked, stocked-length, stocked-state}
 use Rattle.initial.specs.Initial.{slot_of, str1, block_of, opened_with, initial_reply}
 use Rattle.final_command.specs.Final.{fa_key_of, rnd1_of as sessionRnd1, first_mode, final_reply}
 use Rattle.final_command.specs.Laws.{length-body, take-body, body_bytes}

@@ -11,7 +11,7 @@ use Rattle.plaid_types.specs.Cards.{no_mode}
 use Rattle.plaid_types.specs.declared.OpModeId.{OpModeId}
 use Rattle.plaid_types.specs.declared.ModeSlot.{ModeSlot}
 use Rattle.plaid_types.specs.declared.Card.{Card}
-use Rattle.load.specs.Laws.{mode_at, Stocked}
+use Rattle.load.proofs.Laws.{mode_at, Stocked}
 use Rattle.final_command.specs.Final.{text_of, card_keys_hash, op_mode, first_mode, mode_of, deciphered_text, accepting, accepts_final}
 
 -- "Accepted exactly when a session is open, Lc is a multiple of 16, the first 16n bytes are rightly padded, the unpadded text has at least 34

@@ -24,7 +24,7 @@ use Rattle.frame.specs.Laws.{Faultless, faultless, frame_byte, frame-last, data-
 use Rattle.plaid_types.specs.Keys.{key_length_of}
 use Rattle.plaid_types.specs.declared.OpModeId.{OpModeId}
 use Rattle.plaid_types.specs.declared.Card.{Card}
-use Rattle.load.specs.Laws.{Stocked}
+use Rattle.load.proofs.Laws.{Stocked}
 use Rattle.final_command.specs.Final.{fa_key_of, rnd1_of, diversified, blocks_in, text_of, hashed_of, card_keys_hash, op_mode, mode_of, deciphered_text, accepts_final}
 use Rattle.diversification.specs.Diversification.{diversified_by}
 use Rattle.diversification.specs.Laws.{diversified-bytes}

@@ -12,7 +12,7 @@ use Rattle.cbc.specs.Laws.{encrypted-front}
 use Rattle.plaid_types.specs.Keys.{key_length_of, held}
 use Rattle.plaid_types.specs.declared.ModeSlot.{ModeSlot}
 use Rattle.plaid_types.specs.declared.Card.{Card}
-use Rattle.load.specs.Laws.{mode_at, GoodRecord, Stocked}
+use Rattle.load.proofs.Laws.{mode_at, GoodRecord, Stocked}
 use Rattle.final_command.specs.Final.{text_of, card_keys_hash, op_mode, mode_of, accepts_final, reply_key, record_of, size_of, body_of, reply_text, reply_buffer, final_bytes, final_reply}
 use Rattle.final_command.specs.Laws.{size-loaded, least-is, body-blocks}
 use Rattle.session_final.specs.Accepts.{named-found}

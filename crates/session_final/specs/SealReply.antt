@@ -7,7 +7,7 @@ use Rattle.cbc.specs.Cbc.{encrypted, zeros}
 use Rattle.plaid_types.specs.declared.OpModeId.{OpModeId}
 use Rattle.plaid_types.specs.declared.ModeSlot.{ModeSlot}
 use Rattle.plaid_types.specs.declared.Card.{Card}
-use Rattle.load.specs.Laws.{mode_at, GoodRecord, Stocked}
+use Rattle.load.proofs.Laws.{mode_at, GoodRecord, Stocked}
 use Rattle.final_command.specs.Final.{card_keys_hash, first_mode, final_reply}
 use Rattle.reader_seal.specs.Seal.{keys_hash_of}
 use Rattle.session_final.specs.SealText.{SharedSession, sealed, seal-card_keys_hash}

@@ -14,7 +14,7 @@ use Rattle.plaid_types.specs.declared.KeySetId.{KeySetId}
 use Rattle.plaid_types.specs.declared.KeySetSlot.{KeySetSlot}
 use Rattle.plaid_types.specs.declared.Card.{Card}
 use Rattle.load.specs.Load.{some}
-use Rattle.load.specs.Laws.{Stocked, stocked-length}
+use Rattle.load.proofs.Laws.{Stocked, stocked-length}
 use Rattle.initial.specs.Initial.{first_slot, first_place, slot_of, accepts_initial, str1, block_of, opened_with, accepted_initial, refused_initial, initial_reply}
 use Rattle.reader_list.specs.List.{numbers}
 use Rattle.session_initial.specs.Held.{held_in, held, first_of, first_held, slot-missing, Holds, slot-holds, slot-none}

@@ -9,7 +9,7 @@ use Rattle.plaid_types.specs.declared.KeySetId.{KeySetId}
 use Rattle.plaid_types.specs.declared.KeySetSlot.{KeySetSlot}
 use Rattle.plaid_types.specs.declared.Card.{Card}
 use Rattle.load.specs.Load.{some}
-use Rattle.load.specs.Laws.{Stocked, neither}
+use Rattle.load.proofs.Laws.{Stocked, neither}
 use Rattle.initial.specs.Initial.{first_slot}
 
 -- whether some slot is held with KeySetID k

@@ -6,7 +6,7 @@ use Rattle.plaid_types.specs.Cards.{no_set}
 use Rattle.plaid_types.specs.declared.KeySetId.{KeySetId}
 use Rattle.plaid_types.specs.declared.KeySetSlot.{KeySetSlot}
 use Rattle.plaid_types.specs.declared.Card.{Card}
-use Rattle.load.specs.Laws.{Stocked, set_at}
+use Rattle.load.proofs.Laws.{Stocked, set_at}
 use Rattle.initial.specs.Initial.{first_slot, first_place, slot_of, accepts_initial}
 use Rattle.session_initial.specs.Held.{held_in, slot-missing, Holds, slot-holds, slot-none}
 

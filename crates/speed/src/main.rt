@@ -357,13 +357,13 @@ fn operate(rt: &(impl Print + Eprint), name: &[u8], times: usize) -> io::Result<
     }
 }
 
-// Puts argument i at the start of `out`, as much of it as fits, and answers how many bytes that are. None where there is no such argument.
+// Puts argument i at the start of `out`, and answers how many bytes that are: 0 of one that is longer. None where there is no such argument.
 fn argument(rt: &impl Env, i: usize, out: &mut [u8]) -> Option<usize>
     ensures { IfSome result (λ n. n ≤ length out.new) }
 {
     match rt.arg(i, out) {
         Ok(n) => Some(n),
-        Err(FillError::TooLong) => Some(out.len()),
+        Err(FillError::TooLong) => Some(0),
         Err(FillError::NotPresent) => None,
     }
 }

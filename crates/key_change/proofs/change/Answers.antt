@@ -6,9 +6,9 @@ use lib.ListN.{length, get_or}
 use Rattle.plaid_types.specs.Keys.{key_length_of}
 use Rattle.plaid_types.specs.KeyLaws.{lawful-one}
 use Rattle.load.specs.Load.{past_set}
-use Rattle.load.specs.Laws.{sets-right, key-within, set-right}
+use Rattle.load.proofs.Laws.{sets-right, key-within, set-right}
 use Rattle.key_change.specs.KeyChange.{change_refusal}
-use Rattle.key_change.specs.Laws.{number-found, change-made, change-refused}
+use Rattle.key_change.proofs.Laws.{number-found, change-made, change-refused}
 use Rattle.std.proofs.Common.{rules}
 use Rattle.key_change.proofs.change.Goals as goal
 

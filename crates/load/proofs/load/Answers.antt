@@ -3,7 +3,7 @@ use mathlib.Core.Path.{◌≡◌, sym, ◌∙◌}
 use native.Mathlib.Omega.{arith}
 use lib.ListN.{length, get_or}
 use Rattle.load.specs.Load.{past_set, loaded_card}
-use Rattle.load.specs.Laws.{accepted, key-within, set-right, load-made, load-refused}
+use Rattle.load.proofs.Laws.{accepted, key-within, set-right, load-made, load-refused}
 use Rattle.std.proofs.Common.{rules}
 use Rattle.load.proofs.load.Goals as goal
 

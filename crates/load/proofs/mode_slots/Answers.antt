@@ -6,7 +6,7 @@ use mathlib.Core.List.{map}
 use lib.ListN.{length, take, length-map, get_or-map}
 use Rattle.plaid_types.specs.Cards.{no_mode}
 use Rattle.load.specs.Load.{past_mode, filled, mode_slot}
-use Rattle.load.specs.Laws.{larger-none, map-take}
+use Rattle.load.proofs.Laws.{larger-none, map-take}
 use Rattle.load.proofs.Turns.{copy-turn, copy-filled, size-turn, size-done}
 use Rattle.std.proofs.Common.{rules}
 use Rattle.load.proofs.mode_slots.Goals as goal

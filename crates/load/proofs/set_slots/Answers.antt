@@ -6,7 +6,7 @@ use mathlib.Core.List.{map}
 use lib.ListN.{length, take, length-map, get_or-map}
 use Rattle.plaid_types.specs.Cards.{no_set}
 use Rattle.load.specs.Load.{past_set, filled, set_slot, table_of}
-use Rattle.load.specs.Laws.{map-take}
+use Rattle.load.proofs.Laws.{map-take}
 use Rattle.load.proofs.Turns.{copy-turn, copy-filled}
 use Rattle.std.proofs.Common.{rules}
 use Rattle.load.proofs.set_slots.Goals as goal

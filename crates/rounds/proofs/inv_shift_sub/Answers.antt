@@ -1,7 +1,7 @@
 -- `rounds::inv_shift_sub` meets its contract: each byte is looked up, row r in the r-th column before. Assumes nothing.
 use Prim.Native.Nat.{◌+◌, ◌-◌, ◌%◌}
 use Rattle.sbox.specs.InvSubBytes.{inv_sbox}
-use Rattle.sbox.specs.Rule.{inv_sbox-lt}
+use Rattle.sbox.proofs.Undo.{inv_sbox-lt}
 use Rattle.rounds.specs.Meaning.{looked}
 use Rattle.rounds.proofs.inv_shift_sub.Goals as goal
 

@@ -1,7 +1,7 @@
 -- `rounds::sub_shift` meets its contract: each byte is looked up, row r in the r-th column behind. Assumes nothing.
 use Prim.Native.Nat.{◌+◌, ◌%◌}
 use Rattle.sbox.specs.SubBytes.{sbox}
-use Rattle.sbox.specs.Rule.{sbox-lt}
+use Rattle.sbox.proofs.Undo.{sbox-lt}
 use Rattle.rounds.specs.Meaning.{looked}
 use Rattle.rounds.proofs.sub_shift.Goals as goal
 

@@ -12,7 +12,7 @@ use Rattle.plaid_types.specs.declared.Session.{Session}
 use Rattle.plaid_types.specs.declared.Tries.{Tries}
 use Rattle.plaid_types.specs.declared.Card.{Card}
 use Rattle.load.specs.Load.{miscounted, sets_refusal, table_of}
-use Rattle.load.specs.Laws.{counted, number-of, SetsRight, sets-right, Tabled, tabled, Stocked, stocked-sets}
+use Rattle.load.proofs.Laws.{counted, number-of, SetsRight, sets-right, Tabled, tabled, Stocked, stocked-sets}
 use Rattle.load.specs.declared.Loaded.{Loaded}
 use Rattle.key_change.specs.KeyChange.{change_refusal, changed, sets_loaded, takes_sets}
 
