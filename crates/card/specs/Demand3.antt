@@ -13,7 +13,7 @@ use Rattle.frame.specs.Frame.{frame_of, ins_of, lc_of, initial_ins, data_of}
 use Rattle.frame.specs.Laws.{passed, data-long}
 use Rattle.frame.specs.declared.Verdict.{Verdict}
 use Rattle.initial.specs.Initial.{initial_steps, slot_of, accepts_initial, refused_initial, initial_reply, block_of}
-use Rattle.initial.specs.Laws.{initial-counted, initial-length, initial-rnd1, initial-key}
+use Rattle.initial.proofs.Laws.{initial-counted, initial-length, initial-rnd1, initial-key}
 use Rattle.octets.specs.Lists.{part, over}
 use Rattle.aes.specs.Aes.{aes_under}
 use Rattle.cbc.specs.Cbc.{encrypted, zeros}

@@ -13,7 +13,7 @@ use Rattle.frame.specs.Laws.{command-ins}
 use Rattle.frame.specs.declared.Verdict.{Verdict}
 use Rattle.initial.specs.Initial.{initial_reply}
 use Rattle.initial.specs.Told.{told_initial}
-use Rattle.initial.specs.Laws.{initial-counted}
+use Rattle.initial.proofs.Laws.{initial-counted}
 use Rattle.initial.specs.declared.Initial.{Initial}
 use Rattle.final_command.specs.Final.{accepts_final, final_reply}
 use Rattle.final_command.specs.Told.{told_final}

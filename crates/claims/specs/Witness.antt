@@ -35,7 +35,7 @@ use Rattle.reader_open.specs.Open.{agrees}
 use Rattle.reader_seal.specs.Seal.{lc_of, payload_most, seal_number}
 use Rattle.reader_seal.specs.Laws.{seal-number, length-card_keys_hash}
 use Rattle.reader_accept.specs.Accept.{known_length, deciphered_text, acceptable, accept_number, accepted_of}
-use Rattle.reader_accept.specs.Laws.{known}
+use Rattle.reader_accept.proofs.Laws.{known}
 use Rattle.plaid.specs.Interface.{load_of}
 use Rattle.claims.specs.Load.{Load, TypedValue, TypedPlaces, card_of, sets_after, sets_at}
 use Rattle.claims.specs.Loaded.{size-given, handle-given, length-is, key-given}

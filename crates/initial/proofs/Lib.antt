@@ -1,3 +1,4 @@
+pub mod Laws
 pub mod Slots
 pub mod Places
 pub mod Writes

@@ -17,7 +17,7 @@ use Rattle.plaid_types.specs.declared.KeySetId.{KeySetId}
 use Rattle.plaid_types.specs.declared.KeySetSlot.{KeySetSlot}
 use Rattle.initial.specs.Initial.{slot_steps, first_slot, place_steps, first_place}
 use Rattle.initial.specs.Told.{slots_found, places_found}
-use Rattle.initial.specs.Laws.{counted-slots}
+use Rattle.initial.proofs.Laws.{counted-slots}
 use Rattle.initial.specs.declared.Found.{Found}
 
 -- before place j of n, which stands at p; the first stands at p₀

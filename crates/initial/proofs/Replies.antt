@@ -18,7 +18,7 @@ use Rattle.plaid_types.specs.declared.Session.{Session}
 use Rattle.plaid_types.specs.declared.Card.{Card}
 use Rattle.initial.specs.Initial.{initial_steps, slot_of, str1, block_of, opened_with, accepted_initial, refused_initial, initial_reply}
 use Rattle.initial.specs.Told.{data_found, head_of, told_initial}
-use Rattle.initial.specs.Laws.{initial-length}
+use Rattle.initial.proofs.Laws.{initial-length}
 use Rattle.initial.specs.declared.Found.{Found}
 use Rattle.initial.specs.declared.Initial.{Initial}
 use Rattle.octets.specs.Writes.{over-next}

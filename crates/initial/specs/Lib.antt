@@ -1,3 +1,2 @@
 pub mod Initial
 pub mod Told
-pub mod Laws

@@ -14,7 +14,7 @@ use Rattle.plaid_types.specs.Keys.{bytes_of, of_length}
 use Rattle.plaid_types.specs.KeyLaws.{value-bytes}
 use Rattle.plaid_types.specs.declared.Value.{Value}
 use Rattle.reader_accept.specs.Accept.{deciphered_text, authenticated, body_length, has_record, acceptable, known_length, accept_number, number_of, accepted_of, work_after}
-use Rattle.reader_accept.specs.Laws.{known, length-text, Seen, number-none, number-seen}
+use Rattle.reader_accept.proofs.Laws.{known, length-text, Seen, number-none, number-seen}
 use Rattle.reader_accept.specs.declared.Accepted.{Accepted}
 use Rattle.reader_accept.proofs.Writes.{over-again}
 use Rattle.reader_accept.proofs.Tests.{has-acceptable}

@@ -11,7 +11,7 @@ use Rattle.aes.specs.Aes.{inv_aes_under}
 use Rattle.cbc.specs.Cbc.{decrypted_whole, zeros}
 use Rattle.cbc.specs.Laws.{decrypted-all}
 use Rattle.reader_accept.specs.Accept.{deciphered_text}
-use Rattle.reader_accept.specs.Laws.{length-text}
+use Rattle.reader_accept.proofs.Laws.{length-text}
 
 pub behind : (d s : List ℕ) (n : ℕ) → length s ≡ n → drop n (over d 0 s) ≡ drop n d
 unfolding over

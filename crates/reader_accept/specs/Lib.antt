@@ -1,4 +1,1 @@
 pub mod Accept
-pub mod Laws
-pub mod RoundTrip
-pub mod Converse

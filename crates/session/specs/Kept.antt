@@ -15,7 +15,7 @@ use Rattle.plaid_types.specs.declared.Card.{Card}
 use Rattle.load.proofs.Laws.{Stocked, set_at}
 use Rattle.key_change.proofs.Laws.{stocked-after}
 use Rattle.initial.specs.Initial.{slot_of, accepts_initial, opened_with, accepted_initial, refused_initial, initial_reply}
-use Rattle.initial.specs.Laws.{initial-rnd1, initial-key}
+use Rattle.initial.proofs.Laws.{initial-rnd1, initial-key}
 use Rattle.card.specs.Command.{verdict_on}
 use Rattle.card.specs.Lists.{Call, Place, command, key_sets, is_initial, next_session, load_at, session_at, load_after, session_after}
 

@@ -20,7 +20,7 @@ use Rattle.plaid_types.specs.declared.Tries.{Tries}
 use Rattle.plaid_types.specs.declared.Card.{Card}
 use Rattle.plaid_types.specs.declared.Outcome.{Outcome}
 use Rattle.initial.specs.Initial.{str1, block_of}
-use Rattle.initial.specs.Laws.{length-str1}
+use Rattle.initial.proofs.Laws.{length-str1}
 use Rattle.final_command.specs.Final.{accepts_final}
 use Rattle.card.specs.Command.{reply_to, refuses_final, done, undone, verdict_on, outcome, answer_bytes}
 use Rattle.reader_open.specs.Open.{text_of, id_of, div_of, rnd1_of, rnd1_copy, agrees, opens_as, winner}

@@ -38,7 +38,7 @@ use Rattle.reader_seal.specs.Laws.{length-card_keys_hash}
 use Rattle.reader_seal.specs.RoundTrip.{card_keys_hash-bytes}
 use Rattle.reader_accept.specs.Accept.{accepted_of, work_after, record_part}
 use Rattle.reader_accept.specs.declared.Accepted.{Accepted}
-use Rattle.reader_accept.specs.RoundTrip.{card_reply, reply-accepted, reply-record, reply-short}
+use Rattle.reader_accept.proofs.RoundTrip.{card_reply, reply-accepted, reply-record, reply-short}
 use Rattle.session_initial.specs.Held.{held, first_held, first-held}
 use Rattle.session_initial.specs.Answered.{Answers, list-answered}
 use Rattle.session_final.specs.SealFrame.{seal-status, seal-ins}

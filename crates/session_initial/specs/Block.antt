@@ -11,7 +11,7 @@ use Rattle.plaid_types.specs.Keys.{str1_length}
 use Rattle.plaid_types.specs.KeyLaws.{str1-most}
 use Rattle.plaid_types.specs.declared.KeySetId.{KeySetId}
 use Rattle.initial.specs.Initial.{str1, block_of}
-use Rattle.initial.specs.Laws.{length-str1, length-block}
+use Rattle.initial.proofs.Laws.{length-str1, length-block}
 use Rattle.session_initial.specs.Parts.{part-after, part-last, part-behind}
 
 -- "The output block is 00 02, the pad bytes, 00, those 50 bytes." T-04: "STR1 is then 50, 66 or 82 bytes": where they stand in the 256

@@ -4,7 +4,7 @@ use native.Mathlib.Omega.{arith}
 use lib.ListN.{length}
 use lib.Seq.{length-take-le}
 use Rattle.key_expansion.specs.KeyLength.{is_key_length, length_most}
-use Rattle.reader_accept.specs.Laws.{known}
+use Rattle.reader_accept.proofs.Laws.{known}
 use Rattle.reader_accept.proofs.Cases.{seen, not-deciphered, text-refused, text-accepted}
 use Rattle.std.proofs.Common.{rules}
 use Rattle.reader_accept.proofs.accept_in.Goals as goal

@@ -1,7 +1,7 @@
 -- `reader_accept::decipher_into` meets its contract: the response copied, and deciphered where it stands (`deciphered-writes`). Assumes nothing.
 use mathlib.Core.Path.{sym}
 use lib.Seq.{length-take-le}
-use Rattle.reader_accept.specs.Laws.{known}
+use Rattle.reader_accept.proofs.Laws.{known}
 use Rattle.reader_accept.proofs.Writes.{deciphered-writes}
 use Rattle.std.proofs.Common.{rules}
 use Rattle.reader_accept.proofs.decipher_into.Goals as goal

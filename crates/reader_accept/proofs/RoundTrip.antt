@@ -26,7 +26,7 @@ use Rattle.cbc.specs.Lengths.{length-encrypted}
 use Rattle.plaid_types.specs.Keys.{bytes_of}
 use Rattle.plaid_types.specs.declared.Value.{Value}
 use Rattle.reader_accept.specs.Accept.{deciphered_text, text_length, right_body, authenticated, body_length, has_record, acceptable, known_length, accept_number, number_of, accepted_of, work_after, record_part}
-use Rattle.reader_accept.specs.Laws.{number-seen}
+use Rattle.reader_accept.proofs.Laws.{number-seen}
 
 -- Document 01: "the reply is record, DivData and padding", enciphered by CBC under KeysHash: the answer of a card that accepted. T-01: "A shorter
 -- record is followed by a payload of zero bytes". The body is the record and that filler

@@ -21,8 +21,8 @@ use Rattle.cbc.specs.Aes.{aes-cipher, encrypted-decrypted-aes}
 use Rattle.plaid_types.specs.Keys.{bytes_of}
 use Rattle.plaid_types.specs.declared.Value.{Value}
 use Rattle.reader_accept.specs.Accept.{deciphered_text, text_length, right_body, authenticated, body_length, has_record, acceptable, number_of, accepted_of, work_after, record_part}
-use Rattle.reader_accept.specs.Laws.{Known, known, length-text, Seen, number-none}
-use Rattle.reader_accept.specs.RoundTrip.{card_reply}
+use Rattle.reader_accept.proofs.Laws.{Known, known, length-text, Seen, number-none}
+use Rattle.reader_accept.proofs.RoundTrip.{card_reply}
 
 -- "unpad; the last 16 bytes must be DivData and 1 to 64 bytes must stand before them"
 record Authentic (s div : List ℕ) : Type 0 where
