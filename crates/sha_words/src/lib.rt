@@ -1,49 +1,42 @@
-//! FIPS 180-4: sums and rotations of 32-bit words, and the six functions of SHA-256.
+//! FIPS 180-4: sums of 32-bit words, and the six functions of SHA-256.
 #![tactic(auto)]
 
-ghost use Rattle.std.specs.Prelude.{◌≡◌, ◌<◌};
-ghost use Rattle.sha_words.specs.Words.{plus, rotr};
+ghost use Rattle.std.specs.Prelude.{◌≡◌};
+ghost use Rattle.sha_words.specs.Words.{plus};
 ghost use Rattle.sha_words.specs.Functions.{ch, maj, upper_sigma0, upper_sigma1, sigma0, sigma1};
 
 // Addition modulo 2^32.
 pub fn add(a: u32, b: u32) -> u32
     ensures { result ≡ plus a b }
 {
-    std::num::wrapping_add_u32(a, b)
-}
-
-// The rotation ROTR^n of section 3.2.
-fn rotr(n: u32, x: u32) -> u32
-    requires n_nonzero { 0 < n }
-    requires n_bound { n < 32 }
-    ensures { result ≡ rotr n x }
-{
-    (x >> n) | (x << (32 - n))
+    a.wrapping_add(b)
 }
 
 // The six functions of section 4.1.2, in forms that take fewer instructions: a rotation of a sum is the sum of the rotations.
+// Each pair of sigmas differs in constants alone. FIPS 180-4 gives each a name and a number of its own, so each is a function:
+// a function over the three constants would be no shorter than these bodies of one line.
 pub fn upper_sigma0(x: u32) -> u32
     ensures { result ≡ upper_sigma0 x }
 {
-    rotr(2, rotr(11, rotr(9, x) ^ x) ^ x)
+    ((x.rotate_right(9) ^ x).rotate_right(11) ^ x).rotate_right(2)
 }
 
 pub fn upper_sigma1(x: u32) -> u32
     ensures { result ≡ upper_sigma1 x }
 {
-    rotr(6, rotr(5, rotr(14, x) ^ x) ^ x)
+    ((x.rotate_right(14) ^ x).rotate_right(5) ^ x).rotate_right(6)
 }
 
 pub fn lower_sigma0(x: u32) -> u32
     ensures { result ≡ sigma0 x }
 {
-    rotr(7, rotr(11, x) ^ x) ^ (x >> 3)
+    (x.rotate_right(11) ^ x).rotate_right(7) ^ (x >> 3)
 }
 
 pub fn lower_sigma1(x: u32) -> u32
     ensures { result ≡ sigma1 x }
 {
-    rotr(17, rotr(2, x) ^ x) ^ (x >> 10)
+    (x.rotate_right(2) ^ x).rotate_right(17) ^ (x >> 10)
 }
 
 pub fn choose(x: u32, y: u32, z: u32) -> u32
