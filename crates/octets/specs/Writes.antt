@@ -2,7 +2,17 @@
 use Rattle.std.specs.Prelude.{◌≡◌, refl, List, ◌∷◌, ◌++◌, ℕ, zero, suc, ◌+◌, ◌≤◌, length, take, drop, replicate}
 use Rattle.std.proofs.Common.{sym, ap, ap₂, ◌∙◌, append_assoc, zero-add, arith, length-append, length-take-le, take_at, drop-drop}
 use Rattle.std.proofs.Math.Seq.{drop-append-add}
+use lib.Seq.{take-length}
+use borrow.Rule.Slice.PartMut.{put_mid}
+use Rattle.std.proofs.lemmas.Slice.{put_mid-paste}
 use Rattle.octets.specs.Lists.{over}
+
+-- what a slice holds whose part from `at` on, of k elements, is s
+pub over_by_part : (d : List ℕ) (at k : ℕ) (s t : List ℕ) → t ≡ s → length s ≡ k → put_mid at k d t ≡ over d at s
+unfolding over
+over_by_part d at k s t e h =
+    put_mid-paste at k d t s (length s) e h refl
+    ∙ ap (λ (x : List ℕ). take at d ++ x ++ drop (at + length s) d) (take-length s)
 
 -- the first n of so many zeros
 pub zeros_of : (m n : ℕ) → n ≤ m → ◌≡◌ {A = List ℕ} (take n (replicate m 0)) (replicate n 0)

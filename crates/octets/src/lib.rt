@@ -11,11 +11,7 @@ pub fn block_at(s: &[u8], at: usize) -> [u8; 16]
     ensures { result ≡ part s.now at 16 }
 {
     let mut b = [0u8; 16];
-    let mut i: usize = 0;
-    while i < 16 {
-        b[i] = s[at + i];
-        i += 1;
-    }
+    b.copy_from_slice(part_of(s, at, 16));
     b
 }
 
@@ -33,18 +29,15 @@ pub fn copy_at(d: &mut [u8], at: usize, s: &[u8])
     requires { at + length s.now ≤ length d.old }
     ensures { d.new ≡ over d.old at s.now }
 {
-    let mut i: usize = 0;
-    while i < s.len() {
-        d[at + i] = s[i];
-        i += 1;
-    }
+    let end = at + s.len();
+    d[at..end].copy_from_slice(s);
 }
 
 // Both tests are made, whatever the first says: `&&` would leave the second out.
 pub fn both(a: bool, b: bool) -> bool
     ensures { result ≡ (a && b) }
 {
-    if a { b } else { false }
+    a & b
 }
 
 // Whether two slices of one length are equal. Every byte is looked at.
@@ -52,18 +45,12 @@ pub fn equal(a: &[u8], b: &[u8]) -> bool
     requires { length a.now ≡ length b.now }
     ensures { result ≡ same a.now b.now }
 {
-    let mut r = true;
-    let mut i: usize = 0;
-    while i < a.len() {
-        r = both(r, a[i] == b[i]);
-        i += 1;
-    }
-    r
+    a.iter().zip(b).fold(true, |r, (x, y)| both(r, x == y))
 }
 
 // Two bytes as a number, the high one first.
 pub fn word(high: u8, low: u8) -> u16
     ensures { result ≡ high * 256 + low }
 {
-    (high as u16) * 256 + (low as u16)
+    u16::from_be_bytes([high, low])
 }
