@@ -1,13 +1,12 @@
 -- The blocks of the padded message as the code makes them: bytes of the message, the byte 0x80, zeros, and the length in bits written over the
 -- last eight bytes. Assumes nothing.
-use mathlib.Core.Path.{◌≡◌, refl, sym, ap, ◌∙◌}
-use mathlib.Core.List.{List, [], ◌∷◌, ◌++◌}
-use mathlib.Core.Logic.{⊎_elim}
-use Prim.Native.Nat.{ℕ, zero, suc, ◌+◌, ◌-◌, ◌*◌, ◌/◌, ◌%◌, ◌^◌, ◌<◌, ◌≤◌}
-use native.Mathlib.Nat.{eq-zero-or-pos}
-use native.Mathlib.Omega.{arith}
-use lib.ListN.{length, get_or, take, drop, set, replicate, length-append, get_or-replicate, get_or-append}
-use lib.Seq.{sets, sets-eq, length-take-le, get_or-take}
+use Rattle.std.specs.Int.{to_be_bytes}
+use Rattle.std.proofs.Common.{◌≡◌, refl, sym, ap, ◌∙◌, List, [], ◌∷◌, ◌++◌, ⊎_elim, ℕ, zero, suc, ◌+◌, ◌-◌, ◌*◌, ◌/◌, ◌%◌, ◌^◌, ◌<◌, ◌≤◌, w64, arith, length, get_or, take, drop, set, replicate, append_assoc, length-append, length-drop, length-take-le, get_or-take, get_or-drop}
+use Rattle.std.proofs.Math.ListN.{get_or-append}
+use Rattle.std.proofs.Math.Nat.{eq-zero-or-pos}
+use Rattle.std.proofs.Math.Seq.{drop-drop}
+use Rattle.std.proofs.lemmas.List.{get_or-replicate}
+use borrow.Rule.Slice.PartMut.{put_mid}
 use Rattle.octets.specs.Lists.{table, table-ext, tabled, over, length_over}
 use Rattle.octets.specs.Filled.{Filled, filled_more, filled-all}
 use Rattle.sha_padding.specs.Padding.{be64, pad}
@@ -19,7 +18,7 @@ abbrev bits : ℕ → ℕ → ℕ
 bits l j = l / 2 ^ (56 - 8 * j) % 256
 
 -- the code keeps 64 digits of the length in bits
-kept : (n j : ℕ) → j < 8 → bits (n % 2 ^ 61 * 8) j ≡ bits (8 * n) j
+kept : (n j : ℕ) → j < 8 → bits (n * 8 % 2 ^ 64) j ≡ bits (8 * n) j
 kept n zero h = omega arith
 kept n (suc zero) h = omega arith
 kept n (suc (suc zero)) h = omega arith
@@ -30,17 +29,21 @@ kept n (suc (suc (suc (suc (suc (suc zero)))))) h = omega arith
 kept n (suc (suc (suc (suc (suc (suc (suc zero))))))) h = omega arith
 kept n (suc (suc (suc (suc (suc (suc (suc (suc j)))))))) h = omega arith
 
--- and stores them in eight bytes
-pub length-put : (b : List ℕ) (n : ℕ) → length b ≡ 64 →
-    sets b 56 (table (bits (n % 2 ^ 61 * 8)) 7 0 ++ (n % 2 ^ 61 * 8 % 256 ∷ [])) ≡ over b 56 (be64 (8 * n))
+pub length-bytes : (n : ℕ) → to_be_bytes w64 (n * 8 % 2 ^ 64) ≡ be64 (8 * n)
+length-bytes n =
+    ap (λ x. table (bits (n * 8 % 2 ^ 64)) 7 0 ++ (x ∷ [])) last
+    ∙ table-ext (bits (n * 8 % 2 ^ 64)) (bits (8 * n)) 8 0 (λ j _ h. kept n j (omega arith))
+  where
+    last : n * 8 % 2 ^ 64 % 256 ≡ bits (n * 8 % 2 ^ 64) 7
+    last = omega arith
+
+-- and copies its eight bytes over the last of a block
+pub length-put : (b : List ℕ) (n : ℕ) {s : List ℕ} → s ≡ to_be_bytes w64 (n * 8 % 2 ^ 64) → put_mid 56 8 b s ≡ over b 56 (be64 (8 * n))
 unfolding over
 length-put b n e =
-    ap (λ x. sets b 56 (table (bits (n % 2 ^ 61 * 8)) 7 0 ++ (x ∷ []))) last
-    ∙ ap (sets b 56) (table-ext (bits (n % 2 ^ 61 * 8)) (bits (8 * n)) 8 0 (λ j _ h. kept n j (omega arith)))
-    ∙ sets-eq (be64 (8 * n)) b 56 (omega arith)
-  where
-    last : n % 2 ^ 61 * 8 % 256 ≡ bits (n % 2 ^ 61 * 8) 7
-    last = omega arith
+    ap (put_mid 56 8 b) (e ∙ length-bytes n)
+    ∙ ap (λ x. take 56 b ++ (be64 (8 * n) ++ x)) (drop-drop 8 56 b)
+    ∙ sym (append_assoc (take 56 b) (be64 (8 * n)) (drop 64 b))
 
 -- a byte of a list that s is written over: before s, and in it
 over-before : (d s : List ℕ) (at j : ℕ) → at ≤ length d → j < at → get_or (over d at s) j 0 ≡ get_or d j 0
@@ -57,27 +60,35 @@ over-in d s at i j h e l =
     ∙ past (take at d) s i j (omega (arith, length-take-le at d h))
 
 module _ (m : List ℕ) where
-  -- byte j of block i, and a block whose first k bytes are so, with zeros behind them
+  -- byte j of block i, and a block whose first k bytes are so, with zeros after them
   abbrev byte : ℕ → ℕ → ℕ
   byte i j = get_or (pad m) (64 * i + j) 0
 
   abbrev pub Begun : ℕ → List ℕ → ℕ → Type 0
   Begun i b k = Filled (byte i) (replicate 64 0) b k
 
-  -- k bytes of the message
-  pub begun : (i : ℕ) {f : ℕ → ℕ} {b : List ℕ} {k : ℕ} → Filled f (replicate 64 0) b k → 64 * i + k ≤ length m → ((j : ℕ) → f j ≡ get_or m (64 * i + j) 0) → Begun i b k
-  begun i q h e =
+  -- k bytes of the message, lent as a part of it
+  pub begun : (i k at n : ℕ) {b : List ℕ} → at ≡ 64 * i → n ≡ k → 64 * i + k ≤ length m →
+      Filled (λ j. get_or (take n (drop at m)) j 0) (replicate 64 0) b (length (take n (drop at m))) → Begun i b k
+  begun i k at n e f h q =
+      let long : length (take n (drop at m)) ≡ k = length-take-le n (drop at m) (omega (arith, length-drop at m)) ∙ f in
       record {
         long = q.long;
-        done = λ j l. q.done j l ∙ e j ∙ sym (pad-in m (64 * i + j) (omega arith));
-        rest = q.rest;
+        done =
+            λ j l.
+            q.done j (omega arith)
+            ∙ get_or-take n (drop at m) j 0 (omega arith)
+            ∙ get_or-drop at m j 0
+            ∙ ap (λ x. get_or m (x + j) 0) e
+            ∙ sym (pad-in m (64 * i + j) (omega arith));
+        rest = λ j l. q.rest j (omega arith);
       }
 
   -- and the byte 0x80
   pub marked : (i k : ℕ) (b : List ℕ) → 64 * i + k ≡ length m → k < 64 → Begun i b k → Begun i (set b k 0x80) (k + 1)
   marked i k b e h q = filled_more q h (sym (pad-one m (64 * i + k) e))
 
-  -- behind that the zeros are right as far as those of the padding reach
+  -- after that the zeros are right as far as those of the padding reach
   zeroed : (i k n : ℕ) (b : List ℕ) → length m < 64 * i + k → 64 * i + n + 8 ≤ length (pad m) → n ≤ 64 → Begun i b k →
       (j : ℕ) → j < n → get_or b j 0 ≡ byte i j
   zeroed i k n b h e g q j l =

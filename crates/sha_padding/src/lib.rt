@@ -1,7 +1,7 @@
 //! FIPS 180-4: the blocks of the padded message.
 #![tactic(auto)]
 
-ghost use Rattle.std.specs.Prelude.{◌≡◌, ◌+◌, ◌*◌, ◌/◌, ◌≤◌, length, get_or, replicate};
+ghost use Rattle.std.specs.Prelude.{◌≡◌, ◌*◌, ◌/◌, ◌≤◌, length, get_or, replicate};
 ghost use Rattle.octets.specs.Lists.{over};
 ghost use Rattle.octets.specs.Filled.{Filled};
 ghost use Rattle.sha_padding.specs.Padding.{be64};
@@ -19,41 +19,29 @@ pub fn block_count(m: &[u8]) -> usize
 fn put_length(b: [u8; 64], n: usize) -> [u8; 64]
     ensures { result ≡ over b 56 (be64 (8 * n)) }
 {
-    let bits = n % 0x2000_0000_0000_0000 * 8;
+    let bits = n.wrapping_mul(8);
     let mut t = b;
-    t[56] = ((bits >> 56) % 256) as u8;
-    t[57] = ((bits >> 48) % 256) as u8;
-    t[58] = ((bits >> 40) % 256) as u8;
-    t[59] = ((bits >> 32) % 256) as u8;
-    t[60] = ((bits >> 24) % 256) as u8;
-    t[61] = ((bits >> 16) % 256) as u8;
-    t[62] = ((bits >> 8) % 256) as u8;
-    t[63] = (bits % 256) as u8;
+    t[56..].copy_from_slice(&bits.to_be_bytes());
     t
 }
 
-// k bytes of the message from a place on, and zeros behind them.
-fn front(m: &[u8], at: usize, k: usize) -> [u8; 64]
-    requires k_in_bounds { at + k ≤ length m.now }
-    requires k_bound { k ≤ 64 }
-    ensures { Filled (λ j. get_or m.now (at + j) 0) (replicate 64 0) result k }
+// A part of the message, and zeros after it.
+fn front(part: &[u8]) -> [u8; 64]
+    requires { length part.now ≤ 64 }
+    ensures { Filled (λ j. get_or part.now j 0) (replicate 64 0) result (length part.now) }
 {
     let mut b = [0u8; 64];
-    let mut j: usize = 0;
-    while j < k {
-        b[j] = m[at + j];
-        j += 1;
-    }
+    b[..part.len()].copy_from_slice(part);
     b
 }
 
-// The block in which the message ends: what is left of it, the byte 0x80, and the length where eight bytes are free behind that.
+// The block in which the message ends: what is left of it, the byte 0x80, and the length if eight bytes are free after that.
 fn ending(m: &[u8]) -> [u8; 64]
     ensures { result ≡ block_at m.now (length m.now / 64) }
 {
     let n = m.len();
     let rest = n % 64;
-    let mut b = front(m, n - rest, rest);
+    let mut b = front(&m[n - rest..]);
     b[rest] = 0x80;
     if rest < 56 {
         return put_length(b, n);
@@ -67,7 +55,7 @@ pub fn padded_block(m: &[u8], i: usize) -> [u8; 64]
 {
     let n = m.len();
     if i < n / 64 {
-        return front(m, 64 * i, 64);
+        return front(&m[64 * i..64 * i + 64]);
     }
     if i == n / 64 {
         return ending(m);

@@ -1,5 +1,5 @@
 -- `sha_padding::block_count` meets its contract, by the length of the padded message. Assumes nothing.
-use mathlib.Core.Path.{sym}
+use Rattle.std.proofs.Common.{sym}
 use Rattle.sha_padding.specs.PaddingLaws.{blocks-count}
 use Rattle.sha_padding.proofs.block_count.Goals as goal
 

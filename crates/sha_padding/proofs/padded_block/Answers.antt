@@ -1,7 +1,6 @@
 -- `sha_padding::padded_block` meets its contract: block i is of the message, or the one that it ends in, or the last with the length alone, or past
 -- the last. Assumes nothing.
-use mathlib.Core.Path.{refl, sym, ap, ◌∙◌}
-use native.Mathlib.Omega.{arith}
+use Rattle.std.proofs.Common.{ap, sym, ◌∙◌, refl, arith}
 use Rattle.octets.specs.Filled.{filled_none}
 use Rattle.sha_padding.specs.Parsing.{block_at}
 use Rattle.sha_padding.specs.PaddingLaws.{blocks-count}
@@ -11,7 +10,7 @@ use Rattle.sha_padding.proofs.padded_block.Goals as goal
 pub returns-then-i-n : goal.returns-then-i-n
 returns-then-i-n c =
     let a = c.args in
-    block_in a.m.now a.i _ (begun a.m.now a.i c.front.ensures (omega arith) (λ j. refl))
+    block_in a.m.now a.i _ (begun a.m.now a.i 64 _ _ refl (omega arith) (omega arith) c.front.ensures)
 
 pub returns-then-i-n-2 : goal.returns-then-i-n-2
 returns-then-i-n-2 c =
