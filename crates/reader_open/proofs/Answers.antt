@@ -1,55 +1,93 @@
--- What Open hands back, told by the tests that led there. Assumes nothing.
-use mathlib.Core.Path.{◌≡◌, sym, ap, ◌∙◌}
+-- What Open tells, by the tests that led there, and what it hands back. Assumes nothing.
+use mathlib.Core.Path.{◌≡◌, sym, ap, ap₂, ◌∙◌}
 use mathlib.Core.Bool.{true, false}
 use mathlib.Core.List.{List}
-use Prim.Native.Nat.{ℕ, suc, ◌*◌, ◌<◌, ◌≤◌}
+use Prim.Native.Nat.{ℕ, ◌*◌, ◌<◌, ◌≤◌}
 use native.Mathlib.Omega.{arith}
 use borrow.Author.Tests.{lt-ltb, le-ltb, eq-eqb, ne_eqb}
-use lib.ListN.{length, get_or}
+use lib.ListN.{length, get_or, replicate}
+use Rattle.std.proofs.Common.{lit<}
 use Rattle.key_expansion.specs.KeyLength.{is_key_length}
 use Rattle.plaid_types.specs.declared.KeySetId.{KeySetId}
+use Rattle.plaid_types.specs.declared.Value.{Value}
+use Rattle.plaid_types.specs.Keys.{no_value}
+use Rattle.refusals.specs.declared.Refusal.{Refusal}
+use Rattle.refusals.specs.declared.Refusal.TheVariants.{KeySetCount, KeySetRepeated, ShillHandle, ModeCount, ModeRepeated, Record, FreshCount, PadByte, Output, ListCount, ListRepeated, ListOutput, Blocks, NoneOpens, Payload, SealOutput, Response, WorkBuffer, Authentication, KeyLength, ValueLength, ConversionLength, Parity, BadCharacter, Interface}
+use Rattle.refusals.specs.Numbers.{number_of}
 use Rattle.reader_open.specs.declared.Opened.{Opened}
-use Rattle.reader_open.specs.Open.{winner, open_number, no_id, number_alone, opened_at, opened}
+use Rattle.reader_open.specs.Open.{winner, open_number, no_id, opened_at, opened}
 use Rattle.reader_open.specs.Laws.{winner-at-most}
 
--- the winner's place, where a block opens
+-- no refusal has the number 0
+some-number : (r : Refusal) → 0 < number_of r
+some-number r =
+    elim r as (λ (x : Refusal). 0 < number_of x) [
+      | KeySetCount ↦ lit< tt
+      | KeySetRepeated ↦ lit< tt
+      | ShillHandle ↦ lit< tt
+      | ModeCount ↦ lit< tt
+      | ModeRepeated ↦ lit< tt
+      | Record ↦ lit< tt
+      | FreshCount ↦ lit< tt
+      | PadByte ↦ lit< tt
+      | Output ↦ lit< tt
+      | ListCount ↦ lit< tt
+      | ListRepeated ↦ lit< tt
+      | ListOutput ↦ lit< tt
+      | Blocks ↦ lit< tt
+      | NoneOpens ↦ lit< tt
+      | Payload ↦ lit< tt
+      | SealOutput ↦ lit< tt
+      | Response ↦ lit< tt
+      | WorkBuffer ↦ lit< tt
+      | Authentication ↦ lit< tt
+      | KeyLength ↦ lit< tt
+      | ValueLength ↦ lit< tt
+      | ConversionLength ↦ lit< tt
+      | Parity ↦ lit< tt
+      | BadCharacter ↦ lit< tt
+      | Interface ↦ lit< tt
+    ]
+
+-- the winner's place, if a block opens
 pub winner-below : (l : ℕ) (ids : List KeySetId) (n : ℕ) (blocks : List ℕ) {w : ℕ} → length ids ≡ 16 → n ≤ 16 → w ≡ winner l ids n blocks → (w ≡ n → ⊥) → w < n
 winner-below l ids n blocks k h e z = omega (arith, winner-at-most l ids n blocks (omega arith))
 
 module _ (l : ℕ) (ids : List KeySetId) (n : ℕ) (blocks : List ℕ) where
-  answer-declined : (k : ℕ) {r : Opened} → open_number l ids n blocks ≡ suc k → r ≡ number_alone (suc k) → r ≡ opened l ids n blocks
+  pub not-opened : (r : Refusal) {k : ℕ} {v : Value} → k ≡ number_of r → v ≡ no_value → number_of r ≡ open_number l ids n blocks →
+      ◌≡◌ {A = Opened} (record { number = k; place = 0; id = no_id; div_data = replicate 16 0; rnd1 = v }) (opened l ids n blocks)
   unfolding opened
-  answer-declined k e q = q ∙ simp (e, ne_eqb (suc k) 0 (λ z. omega arith))
+  not-opened r ek ev e =
+      ap₂ (λ (x : ℕ) (y : Value). record { number = x; place = 0; id = no_id; div_data = replicate 16 0; rnd1 = y }) (ek ∙ e) ev
+      ∙ sym (simp (ne_eqb (open_number l ids n blocks) 0 (λ z. omega (arith, some-number r))))
 
-  pub length-other : {r : Opened} → is_key_length l ≡ false → r ≡ number_alone 21 → r ≡ opened l ids n blocks
+  pub opened-found : {w : ℕ} {r : Opened} → 0 ≡ open_number l ids n blocks → w ≡ winner l ids n blocks → r ≡ opened_at l (get_or ids w no_id) blocks w → r ≡ opened l ids n blocks
+  unfolding opened
+  opened-found e is a = a ∙ ap (λ (i : ℕ). opened_at l (get_or ids i no_id) blocks i) is ∙ sym (simp (sym e))
+
+  pub length-other : is_key_length l ≡ false → 21 ≡ open_number l ids n blocks
   unfolding open_number
-  length-other e = answer-declined 20 (simp e)
+  length-other e = simp e
 
   module _ (e : is_key_length l ≡ true) where
-    pub count_none : {r : Opened} → n ≡ 0 → r ≡ number_alone 14 → r ≡ opened l ids n blocks
+    pub count_none : n ≡ 0 → 14 ≡ open_number l ids n blocks
     unfolding open_number
-    count_none h = answer-declined 13 (simp (e, eq-eqb n 0 h))
+    count_none h = simp (e, eq-eqb n 0 h)
 
-    pub count-over : {r : Opened} → (n ≡ 0 → ⊥) → 16 < n → r ≡ number_alone 14 → r ≡ opened l ids n blocks
+    pub count-over : (n ≡ 0 → ⊥) → 16 < n → 14 ≡ open_number l ids n blocks
     unfolding open_number
-    count-over z h = answer-declined 13 (simp (e, ne_eqb n 0 z, lt-ltb 16 n h))
+    count-over z h = simp (e, ne_eqb n 0 z, lt-ltb 16 n h)
 
     module _ (z : n ≡ 0 → ⊥) (h : n ≤ 16) where
-      pub total-other : {r : Opened} → (length blocks ≡ 256 * n → ⊥) → r ≡ number_alone 14 → r ≡ opened l ids n blocks
+      pub total-other : (length blocks ≡ 256 * n → ⊥) → 14 ≡ open_number l ids n blocks
       unfolding open_number
-      total-other t = answer-declined 13 (simp (e, ne_eqb n 0 z, le-ltb 16 n h, ne_eqb (length blocks) (256 * n) t))
+      total-other t = simp (e, ne_eqb n 0 z, le-ltb 16 n h, ne_eqb (length blocks) (256 * n) t)
 
       module _ (t : length blocks ≡ 256 * n) {w : ℕ} (is : w ≡ winner l ids n blocks) where
-        pub none-opens : {r : Opened} → w ≡ n → r ≡ number_alone 15 → r ≡ opened l ids n blocks
+        pub none-opens : w ≡ n → 15 ≡ open_number l ids n blocks
         unfolding open_number
-        none-opens q =
-            answer-declined 14 (simp (e, ne_eqb n 0 z, le-ltb 16 n h, eq-eqb (length blocks) (256 * n) t, eq-eqb (winner l ids n blocks) n (sym is ∙ q)))
+        none-opens q = simp (e, ne_eqb n 0 z, le-ltb 16 n h, eq-eqb (length blocks) (256 * n) t, eq-eqb (winner l ids n blocks) n (sym is ∙ q))
 
-        number-none : (winner l ids n blocks ≡ n → ⊥) → open_number l ids n blocks ≡ 0
+        pub one-opens : (w ≡ n → ⊥) → 0 ≡ open_number l ids n blocks
         unfolding open_number
-        number-none q = simp (e, ne_eqb n 0 z, le-ltb 16 n h, eq-eqb (length blocks) (256 * n) t, ne_eqb (winner l ids n blocks) n q)
-
-        pub winner-opens : {r : Opened} → (w ≡ n → ⊥) → r ≡ opened_at l (get_or ids w no_id) blocks w → r ≡ opened l ids n blocks
-        unfolding opened
-        winner-opens q a =
-            a ∙ ap (λ (i : ℕ). opened_at l (get_or ids i no_id) blocks i) is ∙ sym (simp (number-none (λ p. q (is ∙ p))))
+        one-opens q = simp (e, ne_eqb n 0 z, le-ltb 16 n h, eq-eqb (length blocks) (256 * n) t, ne_eqb (winner l ids n blocks) n (λ p. q (is ∙ p)))

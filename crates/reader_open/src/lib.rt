@@ -1,12 +1,14 @@
 //! The reader's Open: the platform's decrypted blocks, one for each listed entry.
 #![tactic(auto)]
 
-ghost use Rattle.std.specs.Prelude.{◌≡◌, ◌+◌, ◌*◌, ◌≤◌, length, true};
+ghost use Rattle.std.specs.Prelude.{◌≡◌, ◌+◌, ◌*◌, ◌<◌, ◌≤◌, length, true, IfOk};
+ghost use Rattle.refusals.specs.Numbers.{number_told};
 ghost use Rattle.key_expansion.specs.KeyLength.{is_key_length};
 ghost use Rattle.plaid_types.specs.Keys.{str1_length};
-ghost use Rattle.reader_open.specs.Open.{formed, text_of, id_of, agrees, opens_as, winner, number_alone, opened_at, opened};
+ghost use Rattle.reader_open.specs.Open.{formed, text_of, id_of, agrees, opens_as, winner, open_number, opened_at, opened};
 
 use plaid_types::{Answer, Fresh, KeySetId, Reader, Value};
+use refusals::Refusal;
 
 // What Open hands back: the number; and the winning entry's place and KeySetID, with DivData and RND1 of its block.
 #[repr(C)]
@@ -17,18 +19,6 @@ pub struct Opened {
     pub id: KeySetId,
     pub div_data: [u8; 16],
     pub rnd1: Value,
-}
-
-fn declined(number: u8) -> Opened
-    ensures { result ≡ number_alone number }
-{
-    Opened {
-        number: number,
-        place: 0,
-        id: KeySetId(0),
-        div_data: [0u8; 16],
-        rnd1: Value::none(),
-    }
 }
 
 // STR1 of a block: its last bytes.
@@ -82,16 +72,12 @@ fn first(l: usize, ids: [KeySetId; Reader::IDS], n: usize, blocks: &[u8]) -> usi
     ensures { result ≡ winner l ids n blocks.now }
 {
     let mut at = n;
-    let mut i: usize = 0;
-    while i < n {
-        let k = ids[i];
-        let hit = opens(
-            l,
-            octets::part_of(blocks, Answer::INITIAL * i, Answer::INITIAL),
-            k,
-        );
+    let listed = &ids[..n];
+    // The blocks go by place: std has no law for a zip with chunks.
+    for (i, id) in listed.iter().enumerate() {
+        let block = octets::part_of(blocks, Answer::INITIAL * i, Answer::INITIAL);
+        let hit = opens(l, block, *id);
         at = steps::keep(n, at, i, hit);
-        i += 1;
     }
     at
 }
@@ -126,24 +112,46 @@ fn handed(l: usize, id: KeySetId, blocks: &[u8], at: usize) -> Opened
     }
 }
 
-pub fn open(l: usize, ids: [KeySetId; Reader::IDS], count: usize, blocks: &[u8]) -> Opened
-    ensures { result ≡ opened l ids count blocks.now }
+// The place of the first entry whose block opens.
+fn found(
+    l: usize,
+    ids: [KeySetId; Reader::IDS],
+    count: usize,
+    blocks: &[u8],
+) -> Result<usize, Refusal>
+    ensures number { number_told result ≡ open_number l ids count blocks.now }
+    ensures place { IfOk result (λ at. (l ≤ 32) × (at < 16) × (256 * at + 256 ≤ length blocks.now) × (at ≡ winner l ids count blocks.now)) }
 {
     if !key_expansion::is_key_length(l) {
-        return declined(21);
+        return Err(Refusal::KeyLength);
     }
     if count == 0 {
-        return declined(14);
+        return Err(Refusal::Blocks);
     }
     if Reader::IDS < count {
-        return declined(14);
+        return Err(Refusal::Blocks);
     }
     if blocks.len() != Answer::INITIAL * count {
-        return declined(14);
+        return Err(Refusal::Blocks);
     }
     let at = first_of_length(l, ids, count, blocks);
     if at == count {
-        return declined(15);
+        return Err(Refusal::NoneOpens);
     }
-    handed(l, ids[at], blocks, at)
+    Ok(at)
+}
+
+pub fn open(l: usize, ids: [KeySetId; Reader::IDS], count: usize, blocks: &[u8]) -> Opened
+    ensures { result ≡ opened l ids count blocks.now }
+{
+    match found(l, ids, count, blocks) {
+        Ok(at) => handed(l, ids[at], blocks, at),
+        Err(r) => Opened {
+            number: r.number(),
+            place: 0,
+            id: KeySetId(0),
+            div_data: [0u8; 16],
+            rnd1: Value::none(),
+        },
+    }
 }

@@ -1,6 +1,5 @@
 -- `first` meets its contract. The loop's invariant: what is found from place i on, with what was found before, is the winner (Turns).
 -- Assumes nothing.
-use Prim.Native.Nat.{◌-◌, ◌≤◌}
 use mathlib.Core.Path.{◌≡◌}
 use mathlib.Core.Bool.{cond}
 use lib.Dec.{eqb}
@@ -9,7 +8,4 @@ use Rattle.reader_open.specs.Open.{first_open, winner}
 use Rattle.reader_open.proofs.first.Given as goal
 
 abbrev pub invariant-loop-i : goal.invariant-loop-i
-invariant-loop-i l = (l.i ≤ l.n) × (cond (eqb l.at l.n) (first_open l.l l.blocks l.i (drop l.i (take l.n l.ids))) l.at ≡ winner l.l l.ids l.n l.blocks)
-
-abbrev pub decreases-loop-i : goal.decreases-loop-i
-decreases-loop-i l = l.n - l.i
+invariant-loop-i l = cond (eqb l.at l.n) (first_open l.l l.blocks l.i (drop l.i (take l.n l.fn.ids))) l.at ≡ winner l.l l.fn.ids l.n l.blocks

@@ -1,5 +1,0 @@
--- `declined` meets its contract. Assumes nothing.
-use Rattle.reader_open.proofs.declined.Goals as goal
-
-pub returns : goal.returns
-returns c = rw c.none.ensures
