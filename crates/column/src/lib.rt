@@ -3,13 +3,13 @@
 
 ghost use Rattle.std.specs.Prelude.{◌≡◌, ◌+◌, ◌≤◌, get_or};
 ghost use Rattle.field.specs.Field.{x_times};
-ghost use Rattle.column.specs.Word.{word, word_of, byte_at, put, turned, word_times};
+ghost use Rattle.column.specs.Word.{word, word_of, byte_at, put, word_times};
 
 // Four bytes as a word, the first in the low bits.
 pub fn word(a: u8, b: u8, c: u8, d: u8) -> u32
     ensures { result ≡ word a b c d }
 {
-    (a as u32) + (b as u32) * 256 + (c as u32) * 65536 + (d as u32) * 16777216
+    u32::from_le_bytes([a, b, c, d])
 }
 
 // The word that stands at a place of a block or a round key.
@@ -20,32 +20,14 @@ pub fn word_at(s: [u8; 16], at: usize) -> u32
     word(s[at], s[at + 1], s[at + 2], s[at + 3])
 }
 
-// The four bytes of a word, written over a block from a place on. Each divisor is 256, so that a byte stands here as its definition has it;
-// the compiler makes one shift of them.
+// The four bytes of a word, written over a block from a place on.
 pub fn put(b: [u8; 16], at: usize, w: u32) -> [u8; 16]
     requires { at + 4 ≤ 16 }
     ensures { result ≡ put b at w }
 {
     let mut t = b;
-    t[at] = (w % 256) as u8;
-    t[at + 1] = (w / 256 % 256) as u8;
-    t[at + 2] = (w / 256 / 256 % 256) as u8;
-    t[at + 3] = (w / 256 / 256 / 256 % 256) as u8;
+    t[at..at + 4].copy_from_slice(&w.to_le_bytes());
     t
-}
-
-// The bytes turned one place: byte 1 first.
-fn turned(t: u32) -> u32
-    ensures { result ≡ turned 1 t }
-{
-    t / 256 + (t % 256) * 16777216
-}
-
-// The bytes turned two places.
-fn turned_twice(t: u32) -> u32
-    ensures { result ≡ turned 2 t }
-{
-    t / 65536 + (t % 65536) * 65536
 }
 
 // Each byte times {02}: a product of a bit and {1b} stays in its byte.
@@ -67,16 +49,16 @@ fn times_4(t: u32) -> u32
 pub fn mix(t: u32) -> u32
     ensures { result ≡ word_times 2 3 1 1 t }
 {
-    let next = turned(t);
+    let next = t.rotate_right(8);
     let pairs = t ^ next;
-    times_2(pairs) ^ (next ^ turned_twice(pairs))
+    times_2(pairs) ^ (next ^ pairs.rotate_right(16))
 }
 
 // One column of INVMIXCOLUMNS: its matrix is that of MIXCOLUMNS times ({05} {00} {04} {00}).
 pub fn inv_mix(t: u32) -> u32
     ensures { result ≡ word_times 0xe 0xb 0xd 9 t }
 {
-    let opposite = turned_twice(t);
+    let opposite = t.rotate_right(16);
     let four = times_4(t ^ opposite);
     mix(t ^ four)
 }
