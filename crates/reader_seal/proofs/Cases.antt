@@ -9,13 +9,17 @@ use lib.ListN.{length, take, length-take}
 use Rattle.octets.specs.Lists.{part, over}
 use Rattle.key_expansion.specs.KeyLength.{is_key_length, length_most}
 use Rattle.sha_block.specs.Hash.{sha256}
-use Rattle.plaid_types.specs.Keys.{wide, held, bytes_of, value_of}
+use Rattle.plaid_types.specs.Keys.{wide, held, bytes_of, value_of, no_value}
 use Rattle.plaid_types.specs.KeyLaws.{held-wide, value-bytes, length-bytes}
 use Rattle.plaid_types.specs.declared.Value.{Value}
 use Rattle.plaid_types.specs.declared.OpModeId.{OpModeId}
+use Rattle.std.proofs.Common.{lit<}
+use Rattle.refusals.specs.declared.Refusal.{Refusal}
+use Rattle.refusals.specs.declared.Refusal.TheVariants.{KeySetCount, KeySetRepeated, ShillHandle, ModeCount, ModeRepeated, Record, FreshCount, PadByte, Output, ListCount, ListRepeated, ListOutput, Blocks, NoneOpens, Payload, SealOutput, Response, WorkBuffer, Authentication, KeyLength, ValueLength, ConversionLength, Parity, BadCharacter, Interface}
+use Rattle.refusals.specs.Numbers.{number_of}
 use Rattle.diversification.specs.Diversification.{diversified_by}
 use Rattle.diversification.specs.Laws.{length-diversified}
-use Rattle.reader_seal.specs.Seal.{keys_hash_of, lc_of, payload_most, sealed_data, final_command, seal_command, seal_number, seal_declined, sealed_of, seal_output}
+use Rattle.reader_seal.specs.Seal.{keys_hash_of, lc_of, payload_most, sealed_data, final_command, seal_command, seal_number, sealed_of, seal_output}
 use Rattle.reader_seal.specs.Laws.{length-seal_command, Sealable, sealable, seal-done, seal-written}
 use Rattle.reader_seal.specs.declared.Sealed.{Sealed}
 
@@ -58,9 +62,40 @@ module _ (l : ℕ) (fa rnd1 rnd2 : Value) (p room : ℕ) where
             no-fault h =
                 simp (one, eq-eqb fa.length l f, eq-eqb rnd1.length l a, eq-eqb rnd2.length l b, le-ltb (payload_most l) p m, le-ltb room (lc_of l p + 6) h)
 
--- what is known behind `fault` where it finds none
-pub seen : {l : ℕ} {fa rnd1 rnd2 : Value} {p room n : ℕ} → n ≡ seal_number l fa rnd1 rnd2 p room → n ≡ 0 → Sealable l fa rnd1 rnd2 p room
-seen {l} {fa} {rnd1} {rnd2} {p} {room} e z = sealable l fa rnd1 rnd2 p room (sym e ∙ z)
+-- no refusal has the number 0
+some-number : (r : Refusal) → 0 < number_of r
+some-number r =
+    elim r as (λ (x : Refusal). 0 < number_of x) [
+      | KeySetCount ↦ lit< tt
+      | KeySetRepeated ↦ lit< tt
+      | ShillHandle ↦ lit< tt
+      | ModeCount ↦ lit< tt
+      | ModeRepeated ↦ lit< tt
+      | Record ↦ lit< tt
+      | FreshCount ↦ lit< tt
+      | PadByte ↦ lit< tt
+      | Output ↦ lit< tt
+      | ListCount ↦ lit< tt
+      | ListRepeated ↦ lit< tt
+      | ListOutput ↦ lit< tt
+      | Blocks ↦ lit< tt
+      | NoneOpens ↦ lit< tt
+      | Payload ↦ lit< tt
+      | SealOutput ↦ lit< tt
+      | Response ↦ lit< tt
+      | WorkBuffer ↦ lit< tt
+      | Authentication ↦ lit< tt
+      | KeyLength ↦ lit< tt
+      | ValueLength ↦ lit< tt
+      | ConversionLength ↦ lit< tt
+      | Parity ↦ lit< tt
+      | BadCharacter ↦ lit< tt
+      | Interface ↦ lit< tt
+    ]
+
+-- what is known after `fault` if it finds none
+pub seen : {l : ℕ} {fa rnd1 rnd2 : Value} {p room : ℕ} → 0 ≡ seal_number l fa rnd1 rnd2 p room → Sealable l fa rnd1 rnd2 p room
+seen {l} {fa} {rnd1} {rnd2} {p} {room} e = sealable l fa rnd1 rnd2 p room (sym e)
 
 pub taken-most : (l : ℕ) (s : List ℕ) → l ≤ 32 → length (take l s) ≤ 32
 taken-most l s h = omega (arith, length-take l s)
@@ -73,21 +108,21 @@ held_of l k e q = ap (take l) q ∙ held-wide l k e
 made : {n n' : ℕ} {h h' : Value} → n ≡ n' → h ≡ h' → ◌≡◌ {A = Sealed} (record { number = 0; length = n; keys_hash = h }) (record { number = 0; length = n'; keys_hash = h' })
 made p q = cc
 
-module _ (l : ℕ) (fa : Value) (div : List ℕ) (rnd1 rnd2 : Value) (mode : OpModeId) (payload out : List ℕ) {n : ℕ}
-    (en : n ≡ seal_number l fa rnd1 rnd2 (length payload) (length out)) where
-  -- what is handed back, and the output
+module _ (l : ℕ) (fa : Value) (div : List ℕ) (rnd1 rnd2 : Value) (mode : OpModeId) (payload out : List ℕ) where
+  -- what is returned, and the output
   abbrev Answer : Sealed → List ℕ → Type 0
   Answer r e = (r ≡ sealed_of l fa div rnd1 rnd2 mode payload (length out)) × (e ≡ seal_output l fa div rnd1 rnd2 mode payload out)
 
-  pub not-sealed : {r : Sealed} → (n ≡ 0 → ⊥) → r ≡ seal_declined n → Answer r out
+  pub not-sealed : (r : Refusal) {k : ℕ} {v : Value} → number_of r ≡ seal_number l fa rnd1 rnd2 (length payload) (length out) →
+      k ≡ number_of r → v ≡ no_value → Answer (record { number = k; length = 0; keys_hash = v }) out
   unfolding sealed_of seal_output
-  not-sealed z q =
-      let f = ne_eqb (seal_number l fa rnd1 rnd2 (length payload) (length out)) 0 (λ y. z (en ∙ y)) in
-      (q ∙ ap seal_declined en ∙ sym (simp f), simp f)
+  not-sealed r e ek ev =
+      let f = ne_eqb (seal_number l fa rnd1 rnd2 (length payload) (length out)) 0 (λ y. omega (arith, some-number r)) in
+      (ap₂ (λ (x : ℕ) (y : Value). record { number = x; length = 0; keys_hash = y }) (ek ∙ e) ev ∙ sym (simp f), simp f)
 
   pub command-made :
       {digest key e : List ℕ} {h : Value} {lc : ℕ}
-      → n ≡ 0
+      → 0 ≡ seal_number l fa rnd1 rnd2 (length payload) (length out)
       → length fa.bytes ≡ 32
       → digest ≡ sha256 (take l rnd1.bytes ++ take l rnd2.bytes)
       → key ≡ wide (diversified_by (take l fa.bytes) div)
@@ -97,7 +132,7 @@ module _ (l : ℕ) (fa : Value) (div : List ℕ) (rnd1 rnd2 : Value) (mode : OpM
       → Answer (record { number = 0; length = lc + 6; keys_hash = h }) e
   unfolding seal_command keys_hash_of part
   command-made {digest} {key} {e} {h} {lc} z long qd qk ql w qh =
-      let s = seen en z in
+      let s = seen z in
       let one = s.length-one in
       let f : List ℕ = bytes_of fa in
       let a : List ℕ = bytes_of rnd1 in
@@ -107,8 +142,8 @@ module _ (l : ℕ) (fa : Value) (div : List ℕ) (rnd1 rnd2 : Value) (mode : OpM
       let dh : take l digest ≡ keys_hash_of l a b = ap (take l) (qd ∙ ap₂ (λ (x y : List ℕ). sha256 (x ++ y)) (value-bytes l rnd1 s.rnd1-right) db) in
       let dk : take l key ≡ diversified_by f div =
       held_of l (diversified_by f div) (length-diversified f div (ap is_key_length lf ∙ one) ∙ lf) (qk ∙ ap (λ (x : List ℕ). wide (diversified_by x div)) (value-bytes l fa s.key_right)) in (
-        made (ap (λ (x : ℕ). x + 6) ql ∙ sym (length-seal_command l f div a b mode payload)) (qh ∙ ap value_of dh) ∙ sym (seal-done l fa div rnd1 rnd2 mode payload out (sym en ∙ z)),
+        made (ap (λ (x : ℕ). x + 6) ql ∙ sym (length-seal_command l f div a b mode payload)) (qh ∙ ap value_of dh) ∙ sym (seal-done l fa div rnd1 rnd2 mode payload out (sym z)),
         w
             ∙ ap (over out 0) (ap₂ final_command ql (ap₂ (λ (x y : List ℕ). sealed_data l x mode y payload (take l digest)) dk db ∙ ap (sealed_data l (diversified_by f div) mode b payload) dh))
-            ∙ sym (seal-written l fa div rnd1 rnd2 mode payload out (sym en ∙ z)),
+            ∙ sym (seal-written l fa div rnd1 rnd2 mode payload out (sym z)),
       )

@@ -2,7 +2,9 @@
 -- Assumes nothing.
 use mathlib.Core.Path.{◌≡◌, refl, sym, ap, ◌∙◌}
 use mathlib.Core.List.{List, [], ◌∷◌, ◌++◌, append_assoc, append-nil}
-use Prim.Native.Nat.{ℕ, ◌+◌, ◌*◌, ◌/◌, ◌%◌}
+use Prim.Native.Nat.{ℕ, ◌+◌, ◌*◌, ◌/◌, ◌%◌, ◌^◌, ◌<◌}
+use Rattle.std.specs.Int.{to_be_bytes}
+use mir.Syntax.{w16}
 use native.Mathlib.Omega.{arith}
 use lib.ListN.{length, take, drop, length-append, drop_of_length-le}
 use lib.Seq.{drop-drop}
@@ -33,6 +35,10 @@ put-over d s at n l =
 
 pub both-written : (d a b : List ℕ) {e e' : List ℕ} → e ≡ over d 0 a → e' ≡ over e (length a) b → take (length a + length b) e' ≡ a ++ b
 both-written d a b q r = ap (take (length a + length b)) (over-behind d a b refl q r) ∙ take-over d (a ++ b) (length a + length b) (length-append a b)
+
+-- a mode's number in two bytes
+pub number-bytes : (n : ℕ) → n < 2 ^ 16 → to_be_bytes w16 n ≡ n / 256 ∷ n % 256 ∷ []
+number-bytes n h = ap (λ (x : ℕ). x ∷ n % 256 ∷ []) (omega arith)
 
 pub str2-writes :
     (mode : OpModeId) (rnd2 payload hash d : List ℕ) {e₁ e₂ e₃ e₄ : List ℕ}

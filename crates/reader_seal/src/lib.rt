@@ -3,6 +3,7 @@
 
 ghost use Rattle.std.specs.Prelude.{◌≡◌, true, ◌++◌, ◌+◌, ◌*◌, ◌≤◌, length};
 ghost use Rattle.octets.specs.Lists.{over};
+ghost use Rattle.refusals.specs.Numbers.{number_told};
 ghost use Rattle.sbox.specs.Rule.{sbox_table};
 ghost use Rattle.key_expansion.specs.KeyLength.{is_key_length};
 ghost use Rattle.sha_block.specs.Hash.{sha256};
@@ -15,12 +16,12 @@ ghost use Rattle.reader_seal.specs.Seal.{
   sealed_data,
   final_command,
   seal_number,
-  seal_declined,
   sealed_of,
   seal_output,
 };
 
 use plaid_types::{OpModeId, Reader, Value};
+use refusals::Refusal;
 
 // The number of the decline, with nothing else; or 0, the length of the command and KeysHash.
 #[repr(C)]
@@ -31,16 +32,6 @@ pub struct Sealed {
     pub keys_hash: Value,
 }
 
-fn declined(number: u8) -> Sealed
-    ensures { result ≡ seal_declined number }
-{
-    Sealed {
-        number: number,
-        length: 0,
-        keys_hash: Value::none(),
-    }
-}
-
 // Lc for a payload of p bytes.
 fn lc_of(l: usize, p: usize) -> usize
     requires { (l ≤ 32) × (p ≤ payload_most l) }
@@ -49,29 +40,36 @@ fn lc_of(l: usize, p: usize) -> usize
     16 * padding::blocks_for(2 + 2 * l + p)
 }
 
-// The first fault, of a payload of p bytes and an output of so many; or 0.
-fn fault(l: usize, fa_key: Value, rnd1: Value, rnd2: Value, p: usize, room: usize) -> u8
-    ensures { result ≡ seal_number l fa_key rnd1 rnd2 p room }
+// The first fault, of a payload of p bytes and an output of so many.
+fn fault(
+    l: usize,
+    fa_key: Value,
+    rnd1: Value,
+    rnd2: Value,
+    p: usize,
+    room: usize,
+) -> Result<(), Refusal>
+    ensures { number_told result ≡ seal_number l fa_key rnd1 rnd2 p room }
 {
     if !key_expansion::is_key_length(l) {
-        return 21;
+        return Err(Refusal::KeyLength);
     }
     if fa_key.length as usize != l {
-        return 22;
+        return Err(Refusal::ValueLength);
     }
     if rnd1.length as usize != l {
-        return 22;
+        return Err(Refusal::ValueLength);
     }
     if rnd2.length as usize != l {
-        return 22;
+        return Err(Refusal::ValueLength);
     }
     if Reader::TEXT - (2 + 2 * l) < p {
-        return 16;
+        return Err(Refusal::Payload);
     }
     if room < lc_of(l, p) + 6 {
-        return 17;
+        return Err(Refusal::SealOutput);
     }
-    0
+    Ok(())
 }
 
 // KeysHash is the first L bytes of this digest.
@@ -101,7 +99,7 @@ fn write_str2(mode: OpModeId, rnd2: &[u8], payload: &[u8], hash: &[u8], b: &mut 
     requires { 2 + length rnd2.now + length payload.now + length hash.now ≤ length b.old }
     ensures { b.new ≡ over b.old 0 (str2 mode rnd2.now payload.now hash.now) }
 {
-    let number = [(mode.0 / 256) as u8, (mode.0 % 256) as u8];
+    let number = mode.0.to_be_bytes();
     octets::copy_at(b, 0, &number);
     octets::copy_at(b, 2, rnd2);
     let at = 2 + rnd2.len();
@@ -165,26 +163,31 @@ pub fn seal(
     ensures told { result ≡ sealed_of l fa_key div_data rnd1 rnd2 mode payload.now (length out.old) }
     ensures bytes { out.new ≡ seal_output l fa_key div_data rnd1 rnd2 mode payload.now out.old }
 {
-    let number = fault(l, fa_key, rnd1, rnd2, payload.len(), out.len());
-    if number != 0 {
-        return declined(number);
-    }
-    let fa = fa_key.bytes;
-    let first = rnd1.bytes;
-    let second = rnd2.bytes;
-    let key = &fa[..l];
-    let r1 = &first[..l];
-    let r2 = &second[..l];
-    let digest = hashed(r1, r2);
-    let hash = &digest[..l];
-    let table = sbox::byte_table();
-    let derived = diversified(&table, key, div_data);
-    let under = &derived[..l];
-    let lc = lc_of(l, payload.len());
-    write_command(&table, l, under, mode, r2, payload, hash, lc, out);
-    Sealed {
-        number: 0,
-        length: lc + 6,
-        keys_hash: Value::of(hash),
+    match fault(l, fa_key, rnd1, rnd2, payload.len(), out.len()) {
+        Ok(()) => {
+            let fa = fa_key.bytes;
+            let first = rnd1.bytes;
+            let second = rnd2.bytes;
+            let key = &fa[..l];
+            let r1 = &first[..l];
+            let r2 = &second[..l];
+            let digest = hashed(r1, r2);
+            let hash = &digest[..l];
+            let table = sbox::byte_table();
+            let derived = diversified(&table, key, div_data);
+            let under = &derived[..l];
+            let lc = lc_of(l, payload.len());
+            write_command(&table, l, under, mode, r2, payload, hash, lc, out);
+            Sealed {
+                number: 0,
+                length: lc + 6,
+                keys_hash: Value::of(hash),
+            }
+        }
+        Err(r) => Sealed {
+            number: r.number(),
+            length: 0,
+            keys_hash: Value::none(),
+        },
     }
 }

@@ -8,83 +8,82 @@ use Rattle.reader_seal.proofs.Cases.{seen, taken-most, not-sealed, command-made}
 use Rattle.std.proofs.Common.{rules}
 use Rattle.reader_seal.proofs.seal.Goals as goal
 
-pub returns-then-number-ne0 : goal.returns-then-number-ne0
-returns-then-number-ne0 c =
+pub returns-in-Err : goal.returns-in-Err
+returns-in-Err c =
     let a = c.args in
-    let all = not-sealed a.l a.fa_key a.div_data a.rnd1 a.rnd2 a.mode a.payload.now a.out.now c.fault-number.ensures c.if-number-ne0.true c.declined.ensures in
+    let all = not-sealed a.l a.fa_key a.div_data a.rnd1 a.rnd2 a.mode a.payload.now a.out.now c.in-Err.r c.in-Err.ensures c.number.ensures c.none.ensures in
     record { told = all.0; bytes = all.1 }
 
 pub slice_bounds-fa-end : goal.slice_bounds-fa-end
 slice_bounds-fa-end c =
     let e : length c.args.fa_key.bytes ≡ 32 = search rules in
-    omega (arith, e, length_most _ (seen c.fault-number.ensures c.if-number-ne0.false).length-one)
+    omega (arith, e, length_most _ (seen c.in-Ok.ensures).length-one)
 
 pub slice_bounds-key-end : goal.slice_bounds-key-end
 slice_bounds-key-end c =
     let e : length c.args.fa_key.bytes ≡ 32 = search rules in
-    sym (length-take-le _ _ (omega (arith, e, length_most _ (seen c.fault-number.ensures c.if-number-ne0.false).length-one)))
+    sym (length-take-le _ _ (omega (arith, e, length_most _ (seen c.in-Ok.ensures).length-one)))
 
 pub slice_bounds-first-end : goal.slice_bounds-first-end
 slice_bounds-first-end c =
     let e : length c.args.rnd1.bytes ≡ 32 = search rules in
-    omega (arith, e, length_most _ (seen c.fault-number.ensures c.if-number-ne0.false).length-one)
+    omega (arith, e, length_most _ (seen c.in-Ok.ensures).length-one)
 
 pub slice_bounds-r1-end : goal.slice_bounds-r1-end
 slice_bounds-r1-end c =
     let e : length c.args.rnd1.bytes ≡ 32 = search rules in
-    sym (length-take-le _ _ (omega (arith, e, length_most _ (seen c.fault-number.ensures c.if-number-ne0.false).length-one)))
+    sym (length-take-le _ _ (omega (arith, e, length_most _ (seen c.in-Ok.ensures).length-one)))
 
 pub slice_bounds-second-end : goal.slice_bounds-second-end
 slice_bounds-second-end c =
     let e : length c.args.rnd2.bytes ≡ 32 = search rules in
-    omega (arith, e, length_most _ (seen c.fault-number.ensures c.if-number-ne0.false).length-one)
+    omega (arith, e, length_most _ (seen c.in-Ok.ensures).length-one)
 
 pub slice_bounds-r2-end : goal.slice_bounds-r2-end
 slice_bounds-r2-end c =
     let e : length c.args.rnd2.bytes ≡ 32 = search rules in
-    sym (length-take-le _ _ (omega (arith, e, length_most _ (seen c.fault-number.ensures c.if-number-ne0.false).length-one)))
+    sym (length-take-le _ _ (omega (arith, e, length_most _ (seen c.in-Ok.ensures).length-one)))
 
 pub hashed-digest-requires : goal.hashed-digest-requires
-hashed-digest-requires c = let h = length_most _ (seen c.fault-number.ensures c.if-number-ne0.false).length-one in (taken-most _ _ h, taken-most _ _ h)
+hashed-digest-requires c = let h = length_most _ (seen c.in-Ok.ensures).length-one in (taken-most _ _ h, taken-most _ _ h)
 
 pub slice_bounds-digest-end : goal.slice_bounds-digest-end
-slice_bounds-digest-end c = search (rules, length_most _ (seen c.fault-number.ensures c.if-number-ne0.false).length-one)
+slice_bounds-digest-end c = search (rules, length_most _ (seen c.in-Ok.ensures).length-one)
 
 pub slice_bounds-hash-end : goal.slice_bounds-hash-end
-slice_bounds-hash-end c = sym (length-take-le c.args.l c.hashed-digest.result (search (rules, length_most _ (seen c.fault-number.ensures c.if-number-ne0.false).length-one)))
+slice_bounds-hash-end c = sym (length-take-le c.args.l c.hashed-digest.result (search (rules, length_most _ (seen c.in-Ok.ensures).length-one)))
 
 pub diversified-derived-requires : goal.diversified-derived-requires
 diversified-derived-requires c =
     let e : length c.args.fa_key.bytes ≡ 32 = search rules in
-    let s = seen c.fault-number.ensures c.if-number-ne0.false in
+    let s = seen c.in-Ok.ensures in
     (c.byte_table-table.ensures, ap is_key_length (length-take-le _ _ (omega (arith, e, length_most _ s.length-one))) ∙ s.length-one)
 
 pub slice_bounds-derived-end : goal.slice_bounds-derived-end
-slice_bounds-derived-end c = search (rules, length_most _ (seen c.fault-number.ensures c.if-number-ne0.false).length-one)
+slice_bounds-derived-end c = search (rules, length_most _ (seen c.in-Ok.ensures).length-one)
 
 pub slice_bounds-under-end : goal.slice_bounds-under-end
-slice_bounds-under-end c = sym (length-take-le _ _ (search (rules, length_most _ (seen c.fault-number.ensures c.if-number-ne0.false).length-one)))
+slice_bounds-under-end c = sym (length-take-le _ _ (search (rules, length_most _ (seen c.in-Ok.ensures).length-one)))
 
 pub lc_of-lc-requires : goal.lc_of-lc-requires
-lc_of-lc-requires c = let s = seen c.fault-number.ensures c.if-number-ne0.false in (length_most _ s.length-one, s.payload-most)
+lc_of-lc-requires c = let s = seen c.in-Ok.ensures in (length_most _ s.length-one, s.payload-most)
 
 pub write_command-requires : goal.write_command-requires
 write_command-requires c =
     let e : length c.args.rnd2.bytes ≡ 32 = search rules in
-    let s = seen c.fault-number.ensures c.if-number-ne0.false in
+    let s = seen c.in-Ok.ensures in
     let h = length_most _ s.length-one in
     let lc = c.lc_of-lc.ensures in
     (c.byte_table-table.ensures, s.length-one, length-take-le _ _ (search (rules, h)), length-take-le _ _ (omega (arith, e, h)), length-take-le c.args.l c.hashed-digest.result (search (rules, h)), s.payload-most, lc, omega (arith, lc, s.room-enough))
 
 pub of-requires : goal.of-requires
-of-requires c = taken-most c.args.l c.hashed-digest.result (length_most _ (seen c.fault-number.ensures c.if-number-ne0.false).length-one)
+of-requires c = taken-most c.args.l c.hashed-digest.result (length_most _ (seen c.in-Ok.ensures).length-one)
 
-pub returns : goal.returns
-returns c =
+pub returns-in-Ok : goal.returns-in-Ok
+returns-in-Ok c =
     let a = c.args in
     let all = command-made a.l a.fa_key a.div_data a.rnd1 a.rnd2 a.mode a.payload.now a.out.now
-    c.fault-number.ensures
-    c.if-number-ne0.false
+    c.in-Ok.ensures
     (search rules)
     c.hashed-digest.ensures
     c.diversified-derived.ensures
