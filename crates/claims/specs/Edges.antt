@@ -5,7 +5,7 @@ use Rattle.octets.specs.Lists.{part}
 use Rattle.aes.specs.Aes.{aes_under}
 use Rattle.cbc.specs.Cbc.{zeros, encrypted}
 use Rattle.padding.specs.Method2.{padded, rightly, unpadded}
-use Rattle.padding.specs.declared.Unpadded.TheVariants.{Text, Malformed}
+use Rattle.std.specs.Prelude.{Some, None}
 use Rattle.plaid_types.specs.Keys as keys
 use Rattle.plaid_types.specs.Keys.{str1_length}
 use Rattle.plaid_types.specs.Tries.{is_interface, tries_after}
@@ -126,9 +126,9 @@ Counts k lc n e h = EachFinal k lc (λ l. FinalCounts n e h)
 -- it is not accepted. With t it is where "a session is open, Lc is a multiple of 16, .. its last 16", by T-04 L, "equal KeysHash, and the mode is
 -- held" (its slot is below sixteen)
 pub record LeastText (k t : ℕ) (d : List ℕ) (c : Card) (x : Call) : Type 0 where
-  pub fewer : (n : ℕ) → unpadded (deciphered_text c d) ≡ Text n → n < t → accepted c x ≡ false
+  pub fewer : (n : ℕ) → unpadded (deciphered_text c d) ≡ Some n → n < t → accepted c x ≡ false
   pub enough :
-      unpadded (deciphered_text c d) ≡ Text t → c.session.opened ≡ true → length d % 16 ≡ 0 → part (deciphered_text c d) (t - k) k ≡ card_keys_hash c d → mode_of c d < 16 →
+      unpadded (deciphered_text c d) ≡ Some t → c.session.opened ≡ true → length d % 16 ≡ 0 → part (deciphered_text c d) (t - k) k ≡ card_keys_hash c d → mode_of c d < 16 →
       accepted c x ≡ true
 
 -- T-04: "the shortest text has 2 + 2L bytes", t for L = k
@@ -186,10 +186,10 @@ SealDeclines l p = EachSeal l p (λ out r written. (r ≡ seal_declined 16) × (
 
 -- a last block behind any whole blocks s: "good", and then the text is s, or "bad"
 abbrev pub Good : List ℕ → Type 0
-Good last = (s : List ℕ) → length s % 16 ≡ 0 → (rightly (s ++ last) ≡ true) × (unpadded (s ++ last) ≡ Text (length s))
+Good last = (s : List ℕ) → length s % 16 ≡ 0 → (rightly (s ++ last) ≡ true) × (unpadded (s ++ last) ≡ Some (length s))
 
 abbrev pub Bad : List ℕ → Type 0
-Bad last = (s : List ℕ) → length s % 16 ≡ 0 → (rightly (s ++ last) ≡ false) × (unpadded (s ++ last) ≡ Malformed)
+Bad last = (s : List ℕ) → length s % 16 ≡ 0 → (rightly (s ++ last) ≡ false) × (unpadded (s ++ last) ≡ None)
 
 unfoldable pub edges : List (Type 0)
 edges =

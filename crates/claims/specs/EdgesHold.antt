@@ -18,7 +18,7 @@ use Rattle.aes.specs.Aes.{aes_under}
 use Rattle.cbc.specs.Cbc.{zeros, encrypted}
 use Rattle.padding.specs.Method2.{zero_bytes, padded, rightly, unpadded}
 use Rattle.padding.specs.Laws.{Seen, seen, rightly-seen, seen_none, unpadded-padded, unpadded-lt, text_end-le}
-use Rattle.padding.specs.declared.Unpadded.TheVariants.{Text, Malformed}
+use Rattle.std.specs.Prelude.{Some, None}
 use Rattle.key_expansion.specs.KeyLength.{is_key_length, length-sixteen}
 use Rattle.plaid_types.specs.Keys as keys
 use Rattle.plaid_types.specs.Keys.{key_length_of, str1_length}
@@ -423,7 +423,7 @@ unfolding padded
 good-edge s w =
     let z : zero_bytes (length s) ≡ 15 = omega arith in
     let e : s ++ (0x80 ∷ replicate 15 0) ≡ padded s = ap (λ (n : ℕ). s ++ (0x80 ∷ replicate n 0)) (sym z) in
-    let u : unpadded (s ++ (0x80 ∷ replicate 15 0)) ≡ Text (length s) = ap unpadded e ∙ unpadded-padded s in
+    let u : unpadded (s ++ (0x80 ∷ replicate 15 0)) ≡ Some (length s) = ap unpadded e ∙ unpadded-padded s in
     (rightly-seen (s ++ (0x80 ∷ replicate 15 0)) (length s) (seen (s ++ (0x80 ∷ replicate 15 0)) (length s) u), u)
 
 -- "sixteen 00: bad": the byte that unpadding wants would be one of them
@@ -439,14 +439,14 @@ bad-seen s n k =
     let q = sym z ∙ k.one in
     omega arith
 
-not-rightly : (s : List ℕ) (b : Bool) → rightly s ≡ b → unpadded s ≡ Malformed → b ≡ false
+not-rightly : (s : List ℕ) (b : Bool) → rightly s ≡ b → unpadded s ≡ None → b ≡ false
 unfolding unpadded
 not-rightly s true e u = cc
 not-rightly s false e u = refl
 
 bad-edge : Bad (replicate 16 0)
 bad-edge s w =
-    let u : unpadded (s ++ replicate 16 0) ≡ Malformed = seen_none (s ++ replicate 16 0) (bad-seen s) in
+    let u : unpadded (s ++ replicate 16 0) ≡ None = seen_none (s ++ replicate 16 0) (bad-seen s) in
     (not-rightly (s ++ replicate 16 0) (rightly (s ++ replicate 16 0)) refl u, u)
 
 -- what meets the six conditions is accepted
@@ -472,7 +472,7 @@ module _ (c : Card) (d : List ℕ) where
       by false e = refl
 
   -- a text comes from whole blocks
-  text-data : (n : ℕ) → unpadded (deciphered_text c d) ≡ Text n → 0 < length d
+  text-data : (n : ℕ) → unpadded (deciphered_text c d) ≡ Some n → 0 < length d
   unfolding deciphered_text part
   text-data n u = omega (arith, unpadded-lt (deciphered_text c d) n u, length-take (16 * (length d / 16)) (drop 0 (text_of c d)))
 
@@ -532,7 +532,7 @@ shortest-edge k three = (
   (let w = three-blocks k three in (w.0, w.1.0)),
   λ l w d s u i fresh room lr t. let c : Card = in_state l s u in
       let n : key_length_of c ≡ k = length-is l ∙ w in
-      let r : (m : ℕ) → unpadded (deciphered_text c d) ≡ Text m → accepted c (record { interface = i; command = framed 0x86 d; fresh = fresh; room = room }) ≡ accepts_final c d =
+      let r : (m : ℕ) → unpadded (deciphered_text c d) ≡ Some m → accepted c (record { interface = i; command = framed 0x86 d; fresh = fresh; room = room }) ≡ accepts_final c d =
       λ m q. call-accepted l 0x86 d (frames-any 0x86 d refl (text-data c d m q)) s u i fresh room lr t in
       record {
         fewer = λ m u h. r m u ∙ not-accepted c d (λ z. omega (arith, z.long, (seen (deciphered_text c d) m u).ends));

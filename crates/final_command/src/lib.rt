@@ -202,8 +202,8 @@ fn sealed(s: &[u8], hash: &[u8], held: bool) -> bool
 {
     let u = padding::unpad(s);
     match u {
-        padding::Unpadded::Text(t) => octets::both(ends_with(s, t, hash), held),
-        padding::Unpadded::Malformed => false,
+        Some(t) => octets::both(ends_with(s, t, hash), held),
+        None => false,
     }
 }
 

@@ -1,16 +1,17 @@
 -- Padding written into a buffer, a byte at a time from the end of the text on. Assumes nothing.
-use mathlib.Core.Path.{◌≡◌, sym, ◌∙◌}
-use mathlib.Core.List.{List, ◌∷◌}
-use Prim.Native.Nat.{ℕ, suc, ◌+◌, ◌-◌, ◌*◌, ◌<◌, ◌≤◌}
+use mathlib.Core.Path.{◌≡◌, sym, ap, ◌∙◌}
+use mathlib.Core.List.{List, ◌∷◌, ◌++◌, append_assoc}
+use Prim.Native.Nat.{ℕ, suc, ◌+◌, ◌*◌, ◌<◌, ◌≤◌}
 use native.Mathlib.Nat.{zero-add}
 use native.Mathlib.Numerals.{add-one}
 use native.Mathlib.Omega.{arith}
 use borrow.Author.Tests.{le-leb, lt-leb}
-use lib.ListN.{length, set, take, replicate, length-append}
-use lib.Seq.{length-take-le, append_snoc, take-suc-set, drop-set-lt}
-use Rattle.octets.specs.Lists.{over, over_none}
+use borrow.Rule.Slice.PartMut.{put_mid}
+use lib.ListN.{length, set, take, drop, replicate, length-append}
+use lib.Seq.{length-take-le, append_snoc, take-suc-set, drop-set-lt, drop-drop}
+use Rattle.octets.specs.Lists.{over}
 use Rattle.padding.specs.Method2.{blocks_for, zero_bytes, padded, pad_answer, pad_buffer}
-use Rattle.padding.specs.declared.Padded.TheVariants.{To, TooShort}
+use Rattle.std.specs.Prelude.{Some, None}
 
 -- a byte stored, and the rest written behind it
 over-set : (d : List ℕ) (i v : ℕ) (s : List ℕ) → i < length d → over (set d i v) (i + 1) s ≡ over d i (v ∷ s)
@@ -19,16 +20,12 @@ over-set d i v s h =
     let m : i + 1 + length s ≡ i + suc (length s) = omega arith in
     rw (drop-set-lt (i + 1 + length s) d i v (omega arith), m, add-one, take-suc-set d i v h, append_snoc (take i d) v s)
 
--- a turn of the loop: what is left to write, of the buffer now, is what was to be written
-pub zero_turn : (d all : List ℕ) (i end : ℕ) → i < end → i < length d → over d i (replicate (end - i) 0) ≡ all → over (set d i 0) (i + 1) (replicate (end - (i + 1)) 0) ≡ all
-zero_turn d all i end h l q =
-    let m : end - i ≡ suc (end - (i + 1)) = omega arith in
-    over-set d i 0 (replicate (end - (i + 1)) 0) l ∙ rw m at q
-
-pub zero-done : (d all : List ℕ) (i end : ℕ) → end ≤ i → over d i (replicate (end - i) 0) ≡ all → d ≡ all
-zero-done d all i end h q =
-    let m : end - i ≡ 0 = omega arith in
-    sym (over_none d i) ∙ rw m at q
+-- what a part that was written leaves
+pub put-over : (d s : List ℕ) (at n : ℕ) → length s ≡ n → put_mid at n d s ≡ over d at s
+unfolding over
+put-over d s at n h =
+    ap (λ (x : List ℕ). take at d ++ (s ++ x)) (drop-drop n at d ∙ ap (λ (k : ℕ). drop (at + k) d) (sym h))
+    ∙ sym (append_assoc (take at d) s (drop (at + length s) d))
 
 -- the whole of it: the byte 0x80 and the zero bytes behind the text
 behind-text : (d : List ℕ) (t : ℕ) → t ≤ length d → over d t (0x80 ∷ replicate (zero_bytes t) 0) ≡ over d 0 (padded (take t d))
@@ -38,7 +35,7 @@ behind-text d t h =
     rw (zero-add, length-append, l)
 
 module _ (d : List ℕ) (t : ℕ) (fits : 16 * blocks_for t ≤ length d) where
-  pub answer-fits : pad_answer (length d) t ≡ To (16 * blocks_for t)
+  pub answer-fits : pad_answer (length d) t ≡ Some (16 * blocks_for t)
   unfolding pad_answer
   answer-fits = simp (le-leb (16 * blocks_for t) (length d) fits)
 
@@ -50,7 +47,7 @@ module _ (d : List ℕ) (t : ℕ) (fits : 16 * blocks_for t ≤ length d) where
       ∙ simp (le-leb (16 * blocks_for t) (length d) fits)
 
 module _ (d : List ℕ) (t : ℕ) (short : length d < 16 * blocks_for t) where
-  pub answer-short : pad_answer (length d) t ≡ TooShort
+  pub answer-short : pad_answer (length d) t ≡ None
   unfolding pad_answer
   answer-short = simp (lt-leb (16 * blocks_for t) (length d) short)
 

@@ -1,5 +1,5 @@
 -- Laws of padding method 2: the zero bytes are the fewest, lengths, and that padding and unpadding undo each other. Assumes nothing.
-use Rattle.std.specs.Prelude.{◌≡◌, refl, Bool, true, false, cond, List, ◌∷◌, ℕ, zero, suc, ◌+◌, ◌-◌, ◌*◌, ◌%◌, ◌<◌, ◌≤◌, eqb, length, get_or, take, drop, replicate}
+use Rattle.std.specs.Prelude.{◌≡◌, refl, Bool, Option, Some, None, true, false, cond, List, ◌∷◌, ℕ, zero, suc, ◌+◌, ◌-◌, ◌*◌, ◌%◌, ◌<◌, ◌≤◌, eqb, length, get_or, take, drop, replicate}
 use Rattle.std.proofs.Common.{sym, ap, ◌∙◌, ⊎_elim, eq-or-lt_of_le, not-suc-le-zero, arith, eqb-true, ltb-true, eq-eqb, ne_eqb, lt-ltb, length-append, length-drop, length-take-le, get_or-append-add, get_or-drop, ext_get_or}
 use Rattle.std.proofs.Math.Bool.{and-eq-true_iff}
 use Rattle.std.proofs.lemmas.List.{length-replicate, get_or_at}
@@ -7,8 +7,6 @@ use Rattle.std.proofs.Math.Seq.{split_at}
 use Rattle.octets.specs.Bytes.{Bytes}
 use Rattle.octets.specs.ByteLists.{cons-bytes, append-bytes, zeros-bytes}
 use Rattle.padding.specs.Method2.{blocks_for, zero_bytes, padded, text_end, end, rightly, unpadded}
-use Rattle.padding.specs.declared.Unpadded.{Unpadded}
-use Rattle.padding.specs.declared.Unpadded.TheVariants.{Text, Malformed}
 
 -- the zero bytes fill the blocks, they are fewer than a block, and no fewer fill any number of blocks
 pub fills : (t : ℕ) → t + 1 + zero_bytes t ≡ 16 * blocks_for t
@@ -99,7 +97,7 @@ pub record Seen (s : List ℕ) (n : ℕ) : Type 0 where
   pub one : get_or s n 0 ≡ 0x80
   pub last : length s ≤ n + 16
 
-seen_by : (s : List ℕ) (n : ℕ) (b : Bool) → rightly s ≡ b → cond b (Text (end s - 1)) Malformed ≡ Text n → Seen s n
+seen_by : (s : List ℕ) (n : ℕ) (b : Bool) → rightly s ≡ b → cond b (Some (end s - 1)) None ≡ Some n → Seen s n
 unfolding rightly
 seen_by s n true e q =
     let m : end s - 1 ≡ n = cc in
@@ -116,11 +114,11 @@ seen_by s n true e q =
     }
 seen_by s n false e q = let z : ◌≡◌ {A = ℕ} 0 1 = cc in omega arith
 
-pub seen : (s : List ℕ) (n : ℕ) → unpadded s ≡ Text n → Seen s n
+pub seen : (s : List ℕ) (n : ℕ) → unpadded s ≡ Some n → Seen s n
 unfolding unpadded
 seen s n q = seen_by s n (rightly s) refl q
 
--- and where it has seen that, the text is rightly padded, and it answers so; where there is no such n, it answers Malformed
+-- and where it has seen that, the text is rightly padded, and it answers so; where there is no such n, it answers None
 pub rightly-seen : (s : List ℕ) (n : ℕ) → Seen s n → rightly s ≡ true
 unfolding rightly
 rightly-seen s n k =
@@ -134,24 +132,24 @@ rightly-seen s n k =
       lt-ltb (length s) (suc n + 16) (omega (arith, k.last)),
     )
 
-pub seen-text : (s : List ℕ) (n : ℕ) → Seen s n → unpadded s ≡ Text n
+pub seen-text : (s : List ℕ) (n : ℕ) → Seen s n → unpadded s ≡ Some n
 unfolding unpadded
 seen-text s n k =
     let p : suc n - 1 ≡ n = omega arith in
     simp (rightly-seen s n k, k.ends, p)
 
-malformed-by : (s : List ℕ) (u : Unpadded) → unpadded s ≡ u → ((n : ℕ) → Seen s n → ⊥) → u ≡ Malformed
-malformed-by s (Text n) e f = absurd (f n (seen s n e))
-malformed-by s Malformed e f = refl
+malformed-by : (s : List ℕ) (u : Option ℕ) → unpadded s ≡ u → ((n : ℕ) → Seen s n → ⊥) → u ≡ None
+malformed-by s (Some n) e f = absurd (f n (seen s n e))
+malformed-by s None e f = refl
 
-pub seen_none : (s : List ℕ) → ((n : ℕ) → Seen s n → ⊥) → unpadded s ≡ Malformed
+pub seen_none : (s : List ℕ) → ((n : ℕ) → Seen s n → ⊥) → unpadded s ≡ None
 seen_none s f = malformed-by s (unpadded s) refl f
 
 -- where unpadding answers, the text is shorter than what was unpadded, which is whole blocks
-pub unpadded-lt : (s : List ℕ) (n : ℕ) → unpadded s ≡ Text n → n < length s
+pub unpadded-lt : (s : List ℕ) (n : ℕ) → unpadded s ≡ Some n → n < length s
 unpadded-lt s n q = let k = seen s n q in omega (arith, text_end-le s (length s))
 
-pub unpadded-whole : (s : List ℕ) (n : ℕ) → unpadded s ≡ Text n → length s ≡ 16 * blocks_for n
+pub unpadded-whole : (s : List ℕ) (n : ℕ) → unpadded s ≡ Some n → length s ≡ 16 * blocks_for n
 unpadded-whole s n q = let k = seen s n q in omega (arith, unpadded-lt s n q)
 
 zeros-behind : (s : List ℕ) (n : ℕ) → Seen s n → drop (suc n) s ≡ replicate (length s - suc n) 0
@@ -163,7 +161,7 @@ zeros-behind s n k =
     ∙ sym (zeros-at (length s - suc n) i))
 
 -- and padding that text gives back what was unpadded
-pub padded-unpadded : (s : List ℕ) (n : ℕ) → unpadded s ≡ Text n → padded (take n s) ≡ s
+pub padded-unpadded : (s : List ℕ) (n : ℕ) → unpadded s ≡ Some n → padded (take n s) ≡ s
 unfolding padded
 padded-unpadded s n q =
     let k = seen s n q in
@@ -174,7 +172,7 @@ padded-unpadded s n q =
     rw (e, ← k.one) (sym (split_at s n 0 l))
 
 -- unpadding a padded text gives the text
-pub unpadded-padded : (s : List ℕ) → unpadded (padded s) ≡ Text (length s)
+pub unpadded-padded : (s : List ℕ) → unpadded (padded s) ≡ Some (length s)
 unpadded-padded s =
     seen-text (padded s) (length s)
     (record {

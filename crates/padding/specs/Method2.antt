@@ -1,10 +1,6 @@
 -- ISO/IEC 9797-1, padding method 2, for blocks of 16 bytes.
-use Rattle.std.specs.Prelude.{Bool, cond, ◌&&◌, List, ◌∷◌, ◌++◌, ℕ, zero, suc, ◌+◌, ◌-◌, ◌*◌, ◌/◌, ◌%◌, eqb, ltb, leb, length, get_or, take, replicate}
+use Rattle.std.specs.Prelude.{Bool, Option, Some, None, cond, ◌&&◌, List, ◌∷◌, ◌++◌, ℕ, zero, suc, ◌+◌, ◌-◌, ◌*◌, ◌/◌, ◌%◌, eqb, ltb, leb, length, get_or, take, replicate}
 use Rattle.octets.specs.Lists.{over}
-use Rattle.padding.specs.declared.Padded.{Padded}
-use Rattle.padding.specs.declared.Padded.TheVariants.{To, TooShort}
-use Rattle.padding.specs.declared.Unpadded.{Unpadded}
-use Rattle.padding.specs.declared.Unpadded.TheVariants.{Text, Malformed}
 
 -- "a text of t bytes takes floor(t/16) + 1 blocks"
 abbrev pub blocks_for : ℕ → ℕ
@@ -33,12 +29,12 @@ unfoldable pub rightly : List ℕ → Bool
 rightly s = eqb (length s % 16) 0 && (ltb 0 (end s) && (eqb (get_or s (end s - 1) 0) 0x80 && ltb (length s) (end s + 16)))
 
 -- the text is what stands before that byte
-unfoldable pub unpadded : List ℕ → Unpadded
-unpadded s = cond (rightly s) (Text (end s - 1)) Malformed
+unfoldable pub unpadded : List ℕ → Option ℕ
+unpadded s = cond (rightly s) (Some (end s - 1)) None
 
 -- padding in a buffer of n bytes whose first t are the text: where the padded text ends, if it fits
-unfoldable pub pad_answer : ℕ → ℕ → Padded
-pad_answer n t = cond (leb (16 * blocks_for t) n) (To (16 * blocks_for t)) TooShort
+unfoldable pub pad_answer : ℕ → ℕ → Option ℕ
+pad_answer n t = cond (leb (16 * blocks_for t) n) (Some (16 * blocks_for t)) None
 
 -- and the buffer afterwards: the padded text and what stood behind it, or all as it was
 unfoldable pub pad_buffer : List ℕ → ℕ → List ℕ

@@ -11,30 +11,20 @@ pub fn blocks_for(t: usize) -> usize
     t / 16 + 1
 }
 
-#[derive(Clone, Copy)]
-pub enum Padded {
-    // The padded text ends here.
-    To(usize),
-    TooShort,
-}
-
-// Pads the text in the first t bytes of buf. Blocks are compared, not bytes: their number never overflows.
-pub fn pad(buf: &mut [u8], t: usize) -> Padded
+// Pads the text in the first t bytes of buf and returns the length of the padded text, or None where it does not fit.
+// Blocks are compared, not bytes: their number never overflows.
+pub fn pad(buf: &mut [u8], t: usize) -> Option<usize>
     ensures answer { result ≡ pad_answer (length buf.old) t }
     ensures bytes { buf.new ≡ pad_buffer buf.old t }
 {
     let blocks = blocks_for(t);
     if buf.len() / 16 < blocks {
-        return Padded::TooShort;
+        return None;
     }
     let end = 16 * blocks;
     buf[t] = 0x80;
-    let mut i = t + 1;
-    while i < end {
-        buf[i] = 0;
-        i += 1;
-    }
-    Padded::To(end)
+    buf[t + 1..end].fill(0);
+    Some(end)
 }
 
 // One past the last nonzero byte from start on, or start where all are zero. Every byte is looked at.
@@ -43,43 +33,30 @@ fn end_from(s: &[u8], start: usize) -> usize
     ensures { result ≡ max start (text_end s.now (length s.now)) }
 {
     let mut end = start;
-    let mut i = start;
-    while i < s.len() {
-        if s[i] != 0 {
-            end = i + 1;
+    for (i, b) in s[start..].iter().enumerate() {
+        if *b != 0 {
+            end = start + i + 1;
         }
-        i += 1;
     }
     end
 }
 
-#[derive(Clone, Copy)]
-pub enum Unpadded {
-    // The text is the first so many bytes.
-    Text(usize),
-    Malformed,
-}
-
-// Looks at the last block only, and at all of it.
-pub fn unpad(s: &[u8]) -> Unpadded
+// The length of the text in s, or None where s is not padded rightly. Looks at the last block only, and at all of it.
+pub fn unpad(s: &[u8]) -> Option<usize>
     ensures { result ≡ unpadded s.now }
 {
     let n = s.len();
     if n % 16 != 0 {
-        return Unpadded::Malformed;
+        return None;
     }
     if n < 16 {
-        return Unpadded::Malformed;
+        return None;
     }
     let start = n - 16;
     let end = end_from(s, start);
     if end == start {
-        return Unpadded::Malformed;
+        return None;
     }
     let place = end - 1;
-    if s[place] == 0x80 {
-        Unpadded::Text(place)
-    } else {
-        Unpadded::Malformed
-    }
+    if s[place] == 0x80 { Some(place) } else { None }
 }

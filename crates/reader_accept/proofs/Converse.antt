@@ -14,7 +14,7 @@ use Rattle.key_expansion.specs.KeyLength.{is_key_length}
 use Rattle.aes.specs.Aes.{aes_under, inv_aes_under}
 use Rattle.padding.specs.Method2.{blocks_for, padded, unpadded, rightly}
 use Rattle.padding.specs.Laws.{unpadded-lt, unpadded-whole, padded-unpadded}
-use Rattle.padding.specs.declared.Unpadded.TheVariants.{Text}
+use Rattle.std.specs.Prelude.{Some}
 use Rattle.cbc.specs.Cbc.{encrypted, zeros}
 use Rattle.cbc.specs.Laws.{decrypted-bytes}
 use Rattle.cbc.specs.Aes.{aes-cipher, encrypted-decrypted-aes}
@@ -26,7 +26,7 @@ use Rattle.reader_accept.proofs.RoundTrip.{card_reply}
 
 -- "unpad; the last 16 bytes must be DivData and 1 to 64 bytes must stand before them"
 record Authentic (s div : List ℕ) : Type 0 where
-  unpads : unpadded s ≡ Text (text_length s)
+  unpads : unpadded s ≡ Some (text_length s)
   least : 1 + 16 ≤ text_length s
   most : text_length s ≤ 64 + 16
   last : part s (text_length s - 16) 16 ≡ div

@@ -19,7 +19,7 @@ use Rattle.aes.specs.Aes.{aes_under, inv_aes_under}
 use Rattle.aes.specs.RoundTrip.{length-aes}
 use Rattle.padding.specs.Method2.{blocks_for, zero_bytes, padded, unpadded, rightly}
 use Rattle.padding.specs.Laws.{length-padded, unpadded-padded, padded-bytes}
-use Rattle.padding.specs.declared.Unpadded.TheVariants.{Text, Malformed}
+use Rattle.std.specs.Prelude.{Some, None}
 use Rattle.cbc.specs.Cbc.{encrypted, decrypted, zeros}
 use Rattle.cbc.specs.Aes.{decrypted-encrypted-aes}
 use Rattle.cbc.specs.Lengths.{length-encrypted}
@@ -49,7 +49,7 @@ known-blocks n l =
     ap known_length e ∙ known_at (n / 16) (omega arith)
 
 -- a padded text is rightly padded, and its text is as long as it was
-right_by : (s : List ℕ) (n : ℕ) (b : Bool) → cond b (Text (text_length s)) Malformed ≡ Text n → (b ≡ true) × (text_length s ≡ n)
+right_by : (s : List ℕ) (n : ℕ) (b : Bool) → cond b (Some (text_length s)) None ≡ Some n → (b ≡ true) × (text_length s ≡ n)
 right_by s n true e = (refl, cc)
 right_by s n false e = absurd (let z : ◌≡◌ {A = ℕ} 0 1 = cc in omega arith)
 

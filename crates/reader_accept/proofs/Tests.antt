@@ -9,7 +9,7 @@ use lib.Dec.{eqb}
 use Rattle.octets.specs.Bytes.{same}
 use Rattle.octets.specs.Lists.{part}
 use Rattle.padding.specs.Method2.{rightly, unpadded}
-use Rattle.padding.specs.declared.Unpadded.TheVariants.{Text, Malformed}
+use Rattle.std.specs.Prelude.{Some, None}
 use Rattle.reader_accept.specs.Accept.{known_length, text_length, right_body, authenticated, body_length, has_record, acceptable}
 
 -- a length that is none of the first four is known where it is the last
@@ -22,20 +22,20 @@ pub body_is : (s : List ℕ) (t : ℕ) (div : List ℕ) {b : List ℕ} {r : Bool
 unfolding right_body
 body_is s t div {b} {r} h l q e = simp (le-leb 17 t h, le-leb t 80 l) (ap (λ (x : List ℕ). same x div) (sym q) ∙ sym e)
 
-text-by : (s div : List ℕ) (t : ℕ) (b : Bool) → Text t ≡ cond b (Text (text_length s)) Malformed →
+text-by : (s div : List ℕ) (t : ℕ) (b : Bool) → Some t ≡ cond b (Some (text_length s)) None →
     cond (right_body s t div) (t - 16) 0 ≡ cond (b && right_body s (text_length s) div) (body_length s) 0
 text-by s div t true e = let m : t ≡ text_length s = cc in rw m
 text-by s div t false e = absurd (let z : ◌≡◌ {A = ℕ} 0 1 = cc in omega arith)
 
-pub judged-text : (s div : List ℕ) (t : ℕ) → Text t ≡ unpadded s → cond (right_body s t div) (t - 16) 0 ≡ cond (authenticated s div) (body_length s) 0
+pub judged-text : (s div : List ℕ) (t : ℕ) → Some t ≡ unpadded s → cond (right_body s t div) (t - 16) 0 ≡ cond (authenticated s div) (body_length s) 0
 unfolding unpadded authenticated
 judged-text s div t e = text-by s div t (rightly s) e
 
-malformed-by : (s div : List ℕ) (b : Bool) → Malformed ≡ cond b (Text (text_length s)) Malformed → 0 ≡ cond (b && right_body s (text_length s) div) (body_length s) 0
+malformed-by : (s div : List ℕ) (b : Bool) → None ≡ cond b (Some (text_length s)) None → 0 ≡ cond (b && right_body s (text_length s) div) (body_length s) 0
 malformed-by s div true e = absurd (let z : ◌≡◌ {A = ℕ} 0 1 = cc in omega arith)
 malformed-by s div false e = refl
 
-pub judged-malformed : (s div : List ℕ) → Malformed ≡ unpadded s → 0 ≡ cond (authenticated s div) (body_length s) 0
+pub judged-malformed : (s div : List ℕ) → None ≡ unpadded s → 0 ≡ cond (authenticated s div) (body_length s) 0
 unfolding unpadded authenticated
 judged-malformed s div e = malformed-by s div (rightly s) e
 

@@ -98,8 +98,8 @@ fn judged(s: &[u8], div: [u8; 16]) -> usize
     ensures { result ≡ cond (authenticated s.now div) (body_length s.now) 0 }
 {
     match padding::unpad(s) {
-        padding::Unpadded::Text(t) => body_length(s, t, div),
-        padding::Unpadded::Malformed => 0,
+        Some(t) => body_length(s, t, div),
+        None => 0,
     }
 }
 

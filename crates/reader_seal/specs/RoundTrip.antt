@@ -16,7 +16,7 @@ use Rattle.sha_block.specs.Hash.{sha256, digest_bytes, state_after}
 use Rattle.sha_padding.specs.Parsing.{blocks}
 use Rattle.padding.specs.Method2.{blocks_for, zero_bytes, padded, unpadded}
 use Rattle.padding.specs.Laws.{length-padded, unpadded-padded, padded-bytes}
-use Rattle.padding.specs.declared.Unpadded.TheVariants.{Text}
+use Rattle.std.specs.Prelude.{Some}
 use Rattle.cbc.specs.Cbc.{decrypted, zeros}
 use Rattle.cbc.specs.Aes.{decrypted-encrypted-aes}
 use Rattle.plaid_types.specs.declared.OpModeId.{OpModeId}
@@ -85,9 +85,9 @@ module _ (l : ℕ) (fa div rnd1 rnd2 : List ℕ) (mode : OpModeId) (payload : Li
       (length-padded text ∙ ap (λ (k : ℕ). 16 * blocks_for k) length-text)
 
   -- unpadded, it is a text of 2 + 2L bytes and the payload's, and that text is STR2
-  pub unpadded-str2 : unpadded (deciphered_data l fa div rnd1 rnd2 mode payload) ≡ Text (2 + 2 * l + length payload)
+  pub unpadded-str2 : unpadded (deciphered_data l fa div rnd1 rnd2 mode payload) ≡ Some (2 + 2 * l + length payload)
   unfolding text
-  unpadded-str2 = ap unpadded deciphered-str2 ∙ unpadded-padded text ∙ ap Text length-text
+  unpadded-str2 = ap unpadded deciphered-str2 ∙ unpadded-padded text ∙ ap Some length-text
 
   pub read-str2 : take (2 + 2 * l + length payload) (deciphered_data l fa div rnd1 rnd2 mode payload) ≡ str2 mode rnd2 payload (keys_hash_of l rnd1 rnd2)
   unfolding text padded

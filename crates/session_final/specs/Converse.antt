@@ -14,7 +14,7 @@ use Rattle.octets.specs.ByteLists.{part_bytes, zeros-bytes}
 use Rattle.aes.specs.Aes.{aes_under, inv_aes_under}
 use Rattle.padding.specs.Method2.{blocks_for, padded, end, rightly, unpadded}
 use Rattle.padding.specs.Laws.{unpadded-lt, unpadded-whole, padded-unpadded}
-use Rattle.padding.specs.declared.Unpadded.TheVariants.{Text}
+use Rattle.std.specs.Prelude.{Some}
 use Rattle.cbc.specs.Cbc.{encrypted, decrypted, zeros}
 use Rattle.cbc.specs.Laws.{decrypted-bytes}
 use Rattle.cbc.specs.Aes.{aes-cipher, encrypted-decrypted-aes}
@@ -56,7 +56,7 @@ unfolding part
 part-front s t p n h = ap (take n) (drop-append-le p s t (omega arith)) ∙ take-append-le n (drop p s) t (omega (arith, length-drop p s))
 
 -- what is rightly padded unpads to the bytes before its 0x80
-unpads : (s : List ℕ) → rightly s ≡ true → unpadded s ≡ Text (end s - 1)
+unpads : (s : List ℕ) → rightly s ≡ true → unpadded s ≡ Some (end s - 1)
 unfolding unpadded
 unpads s e = rw e
 
@@ -128,7 +128,7 @@ module _ (c : Card) (d : List ℕ) (g : Stocked c) (hf : Bytes (fa_key_of c)) (h
   abbrev size : ℕ
   size = end (deciphered_text c d) - 1
 
-  text-is : unpadded (deciphered_text c d) ≡ Text size
+  text-is : unpadded (deciphered_text c d) ≡ Some size
   text-is = unpads (deciphered_text c d) six.right
 
   size_less : size < 16 * blocks_in d

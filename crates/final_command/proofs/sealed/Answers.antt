@@ -6,12 +6,12 @@ use Rattle.final_command.proofs.sealed.Goals as goal
 
 pub ends_with-requires : goal.ends_with-requires
 ends_with-requires c =
-    (text-within c.args.s.now _ (sym c.in-Text.ensures), c.requires)
+    (text-within c.args.s.now _ (sym c.in-Some.ensures), c.requires)
 
-pub returns-in-Text : goal.returns-in-Text
-returns-in-Text c =
+pub returns-in-Some : goal.returns-in-Some
+returns-in-Some c =
     let a = c.args in
-    c.both.ensures ∙ ap (λ x. x && a.held) c.ends_with.ensures ∙ text-judged a.s.now a.hash.now a.held _ (sym c.in-Text.ensures)
+    c.both.ensures ∙ ap (λ x. x && a.held) c.ends_with.ensures ∙ text-judged a.s.now a.hash.now a.held _ (sym c.in-Some.ensures)
 
-pub returns-in-Malformed : goal.returns-in-Malformed
-returns-in-Malformed c = malformed-judged c.args.s.now _ (sym c.in-Malformed.ensures)
+pub returns-in-None : goal.returns-in-None
+returns-in-None c = malformed-judged c.args.s.now _ (sym c.in-None.ensures)

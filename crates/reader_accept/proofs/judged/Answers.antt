@@ -6,10 +6,10 @@ use Rattle.reader_accept.proofs.Tests.{judged-text, judged-malformed}
 use Rattle.reader_accept.proofs.judged.Goals as goal
 
 pub body_length-requires : goal.body_length-requires
-body_length-requires c = omega (arith, unpadded-lt _ _ (sym c.in-Text.ensures))
+body_length-requires c = omega (arith, unpadded-lt _ _ (sym c.in-Some.ensures))
 
-pub returns-in-Text : goal.returns-in-Text
-returns-in-Text c = c.body_length.ensures ∙ judged-text _ _ _ (c.in-Text.ensures)
+pub returns-in-Some : goal.returns-in-Some
+returns-in-Some c = c.body_length.ensures ∙ judged-text _ _ _ (c.in-Some.ensures)
 
-pub returns-in-Malformed : goal.returns-in-Malformed
-returns-in-Malformed c = judged-malformed _ _ (c.in-Malformed.ensures)
+pub returns-in-None : goal.returns-in-None
+returns-in-None c = judged-malformed _ _ (c.in-None.ensures)
