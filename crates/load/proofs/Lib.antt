@@ -1,3 +1,3 @@
 pub mod Turns
-pub mod Tests
 pub mod Laws
+pub mod Refused

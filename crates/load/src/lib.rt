@@ -2,19 +2,17 @@
 #![tactic(auto)]
 
 ghost use Rattle.std.specs.Prelude.{◌≡◌, not, ◌||◌, [], map, ℕ, ◌+◌, ◌<◌, ◌≤◌, eqb, length, take, drop, get_or};
+ghost use Rattle.refusals.specs.Numbers.{number_told};
 ghost use Rattle.plaid_types.specs.Keys.{wide, bytes_of, of_length};
 ghost use Rattle.plaid_types.specs.Cards.{no_set, no_mode};
 ghost use Rattle.load.specs.Load.{
   past_set,
   some,
   repeated,
-  set_ids,
-  mode_ids,
   wrong_keys,
   with_handle,
   bad_record,
   reply_size_for,
-  larger,
   largest_size,
   modes_refusal,
   sets_refusal,
@@ -30,6 +28,7 @@ ghost use Rattle.load.specs.Load.{
 use plaid_types::{
     Card, KeySet, KeySetId, KeySetSlot, Mode, ModeSlot, OpModeId, Session, Tries, Value,
 };
+use refusals::Refusal;
 
 // The number of the fault, and a blank card, or by T-07 the card as it was; or 0, and the card.
 #[repr(C)]
@@ -39,67 +38,14 @@ pub struct Loaded {
     pub card: Card,
 }
 
-fn either(a: bool, b: bool) -> bool
-    ensures { result ≡ (a || b) }
+// Whether one of the numbers is repeated.
+pub fn repeats(ids: &[u16]) -> bool
+    ensures { result ≡ repeated ids.now }
 {
-    if a { true } else { b }
-}
-
-fn set_ids(sets: [KeySet; Card::KEY_SETS]) -> [u16; Card::KEY_SETS]
-    ensures { result ≡ set_ids sets }
-{
-    let mut ids = [0u16; Card::KEY_SETS];
-    let mut i: usize = 0;
-    while i < Card::KEY_SETS {
-        let k = sets[i];
-        let id = k.id;
-        ids[i] = id.0;
-        i += 1;
-    }
-    ids
-}
-
-fn mode_ids(modes: [Mode; Card::MODES]) -> [u16; Card::MODES]
-    ensures { result ≡ mode_ids modes }
-{
-    let mut ids = [0u16; Card::MODES];
-    let mut i: usize = 0;
-    while i < Card::MODES {
-        let m = modes[i];
-        let id = m.id;
-        ids[i] = id.0;
-        i += 1;
-    }
-    ids
-}
-
-// Whether the i-th of the first n numbers stands again behind itself.
-fn again(ids: &[u16], i: usize, n: usize) -> bool
-    requires { (i < n) × (n ≤ length ids.now) }
-    ensures { result ≡ some (eqb (get_or ids.now i 0)) (drop (i + 1) (take n ids.now)) }
-{
-    let x = ids[i];
-    let mut j = i + 1;
-    while j < n {
-        if x == ids[j] {
+    for (i, x) in ids.iter().enumerate() {
+        if ids[i + 1..].contains(x) {
             return true;
         }
-        j += 1;
-    }
-    false
-}
-
-// Whether one of the first n numbers stands again.
-pub fn repeats(ids: &[u16], n: usize) -> bool
-    requires { n ≤ length ids.now }
-    ensures { result ≡ repeated (take n ids.now) }
-{
-    let mut i: usize = 0;
-    while i < n {
-        if again(ids, i, n) {
-            return true;
-        }
-        i += 1;
     }
     false
 }
@@ -111,59 +57,35 @@ fn wrong_length(l: usize, key: Value) -> bool
     key.length as usize != l
 }
 
-// Whether one of the first n sets has a key of another length, or the shill handle.
-#[derive(Clone, Copy)]
-struct Wrong {
-    key: bool,
-    handle: bool,
+// Whether one of the sets has a key of another length. Every set is looked at.
+fn wrong_keys(l: usize, sets: &[KeySet]) -> bool
+    ensures { result ≡ wrong_keys l sets.now }
+{
+    sets.iter()
+        .fold(false, |wrong, k| wrong | wrong_length(l, k.fa_key))
 }
 
-// One loop for both: each loop over key sets costs a copy of all eight.
-fn wrong_sets(l: usize, sets: [KeySet; Card::KEY_SETS], n: usize, handle: u8) -> Wrong
-    requires { n ≤ 8 }
-    ensures key { result.key ≡ wrong_keys l (take n sets) }
-    ensures handle { result.handle ≡ with_handle handle (take n sets) }
+// Whether one of the sets has the handle.
+fn with_handle(handle: u8, sets: &[KeySet]) -> bool
+    ensures { result ≡ with_handle handle sets.now }
 {
-    let mut a = false;
-    let mut b = false;
-    let mut i: usize = 0;
-    while i < n {
-        let k = sets[i];
-        let key = k.fa_key;
-        a = either(a, wrong_length(l, key));
-        b = either(b, k.handle == handle);
-        i += 1;
-    }
-    Wrong { key: a, handle: b }
+    sets.iter()
+        .fold(false, |with, k| with | (k.handle == handle))
 }
 
 // The end of a record is not computed: it may not fit.
 fn bad_record(m: Mode, area: usize) -> bool
     ensures { result ≡ bad_record area m }
 {
-    if m.len == 0 {
-        return true;
-    }
-    if Card::RECORD < m.len {
-        return true;
-    }
-    if area < m.len {
-        return true;
-    }
-    area - m.len < m.start
+    m.len == 0 || Card::RECORD < m.len || area < m.len || area - m.len < m.start
 }
 
-fn bad_records(modes: [Mode; Card::MODES], n: usize, area: usize) -> bool
-    requires { n ≤ 16 }
-    ensures { result ≡ some (bad_record area) (take n modes) }
+fn bad_records(modes: &[Mode], area: usize) -> bool
+    ensures { result ≡ some (bad_record area) modes.now }
 {
-    let mut r = false;
-    let mut i: usize = 0;
-    while i < n {
-        r = either(r, bad_record(modes[i], area));
-        i += 1;
-    }
-    r
+    modes
+        .iter()
+        .fold(false, |bad, m| bad | bad_record(*m, area))
 }
 
 // floor((len + 16)/16) + 1, so written that no sum overflows.
@@ -173,56 +95,53 @@ fn reply_size(m: Mode) -> usize
     padding::blocks_for(m.len) + 1
 }
 
-fn larger_of(a: usize, b: usize) -> usize
-    ensures { result ≡ larger a b }
+// The largest reply size that one of the modes needs.
+fn largest_size(modes: &[Mode]) -> usize
+    ensures { result ≡ largest_size modes.now }
 {
-    if a < b { b } else { a }
+    modes.iter().fold(0, |size, m| size.max(reply_size(*m)))
 }
 
-fn modes_fault(modes: [Mode; Card::MODES], n: usize, area: usize) -> u8
-    ensures { result ≡ modes_refusal modes n area }
+fn modes_fault(modes: [Mode; Card::MODES], n: usize, area: usize) -> Result<(), Refusal>
+    ensures { number_told result ≡ modes_refusal modes n area }
 {
-    if n == 0 {
-        return 4;
+    if n == 0 || Card::MODES < n {
+        return Err(Refusal::ModeCount);
     }
-    if Card::MODES < n {
-        return 4;
+    let ids = modes.map(|m| m.id.0);
+    if repeats(&ids[..n]) {
+        return Err(Refusal::ModeRepeated);
     }
-    let ids = mode_ids(modes);
-    if repeats(&ids, n) {
-        return 5;
+    if Card::AREA < area || bad_records(&modes[..n], area) {
+        return Err(Refusal::Record);
     }
-    if Card::AREA < area {
-        return 6;
-    }
-    if bad_records(modes, n, area) {
-        return 6;
-    }
-    0
+    Ok(())
 }
 
-// The checks of the first n key sets; `other` is whether a key that is given beside them has another length.
-pub fn sets_fault(l: usize, sets: [KeySet; Card::KEY_SETS], n: usize, other: bool, handle: u8) -> u8
-    ensures { result ≡ sets_refusal l sets n other handle }
+// The checks of the first n key sets; `other` is whether a key that is given with them has another length.
+pub fn sets_fault(
+    l: usize,
+    sets: [KeySet; Card::KEY_SETS],
+    n: usize,
+    other: bool,
+    handle: u8,
+) -> Result<(), Refusal>
+    ensures { number_told result ≡ sets_refusal l sets n other handle }
 {
-    if n == 0 {
-        return 1;
+    if n == 0 || Card::KEY_SETS < n {
+        return Err(Refusal::KeySetCount);
     }
-    if Card::KEY_SETS < n {
-        return 1;
+    if wrong_keys(l, &sets[..n]) | other {
+        return Err(Refusal::ValueLength);
     }
-    let wrong = wrong_sets(l, sets, n, handle);
-    if either(wrong.key, other) {
-        return 22;
+    let ids = sets.map(|k| k.id.0);
+    if repeats(&ids[..n]) {
+        return Err(Refusal::KeySetRepeated);
     }
-    let ids = set_ids(sets);
-    if repeats(&ids, n) {
-        return 2;
+    if with_handle(handle, &sets[..n]) {
+        return Err(Refusal::ShillHandle);
     }
-    if wrong.handle {
-        return 3;
-    }
-    0
+    Ok(())
 }
 
 fn fault(
@@ -234,41 +153,40 @@ fn fault(
     area: usize,
     key: Value,
     handle: u8,
-) -> u8
-    ensures { result ≡ refusal l sets n modes m area key handle }
+) -> Result<(), Refusal>
+    ensures { number_told result ≡ refusal l sets n modes m area key handle }
 {
     if !key_expansion::is_key_length(l) {
-        return 21;
+        return Err(Refusal::KeyLength);
     }
-    let number = sets_fault(l, sets, n, wrong_length(l, key), handle);
-    if number != 0 {
-        return number;
-    }
+    sets_fault(l, sets, n, wrong_length(l, key), handle)?;
     modes_fault(modes, m, area)
 }
+
+const NO_SET: KeySetSlot = KeySetSlot {
+    held: false,
+    id: KeySetId(0),
+    handle: 0,
+    fa_key: [0u8; Value::MOST],
+};
+
+const NO_MODE: ModeSlot = ModeSlot {
+    held: false,
+    id: OpModeId(0),
+    start: 0,
+    len: 0,
+};
 
 fn empty_sets() -> [KeySetSlot; Card::KEY_SETS]
     ensures { result ≡ filled 8 no_set [] }
 {
-    let none = KeySetSlot {
-        held: false,
-        id: KeySetId(0),
-        handle: 0,
-        fa_key: [0u8; Value::MOST],
-    };
-    [none; Card::KEY_SETS]
+    [NO_SET; Card::KEY_SETS]
 }
 
 fn empty_modes() -> [ModeSlot; Card::MODES]
     ensures { result ≡ filled 16 no_mode [] }
 {
-    let none = ModeSlot {
-        held: false,
-        id: OpModeId(0),
-        start: 0,
-        len: 0,
-    };
-    [none; Card::MODES]
+    [NO_MODE; Card::MODES]
 }
 
 fn empty_area() -> [u8; Card::AREA]
@@ -277,7 +195,7 @@ fn empty_area() -> [u8; Card::AREA]
     [0u8; Card::AREA]
 }
 
-// A key's bytes, with zeros behind them. The first 16, which every key has, are copied without a call.
+// A key's bytes, with zeros after them. The first 16, which every key has, are copied without a call.
 fn wide(key: Value) -> [u8; Value::MOST]
     requires { (16 ≤ key.length) × (key.length ≤ 32) }
     ensures { result ≡ wide (bytes_of key) }
@@ -294,23 +212,20 @@ fn set_slot(k: KeySet) -> KeySetSlot
     requires { (16 ≤ k.fa_key.length) × (k.fa_key.length ≤ 32) }
     ensures { result ≡ set_slot k }
 {
-    let id = k.id;
-    let key = k.fa_key;
     KeySetSlot {
         held: true,
-        id: id,
+        id: k.id,
         handle: k.handle,
-        fa_key: wide(key),
+        fa_key: wide(k.fa_key),
     }
 }
 
 fn mode_slot(m: Mode) -> ModeSlot
     ensures { result ≡ mode_slot m }
 {
-    let id = m.id;
     ModeSlot {
         held: true,
-        id: id,
+        id: m.id,
         start: m.start,
         len: m.len,
     }
@@ -322,41 +237,22 @@ pub fn set_slots(sets: [KeySet; Card::KEY_SETS], n: usize) -> [KeySetSlot; Card:
     ensures { result ≡ table_of (take n sets) }
 {
     let mut slots = empty_sets();
-    let mut i: usize = 0;
-    while i < n {
-        let s = set_slot(sets[i]);
-        slots[i] = s;
-        i += 1;
+    for (i, k) in sets[..n].iter().enumerate() {
+        slots[i] = set_slot(*k);
     }
     slots
 }
 
-// The first n modes in their slots, and the largest reply size that one of them needs.
-#[derive(Clone, Copy)]
-struct ModeSlots {
-    slots: [ModeSlot; Card::MODES],
-    size: usize,
-}
-
-fn mode_slots(modes: [Mode; Card::MODES], n: usize) -> ModeSlots
-    requires { n ≤ 16 }
-    ensures slots { result.slots ≡ filled 16 no_mode (map mode_slot (take n modes)) }
-    ensures size { result.size ≡ largest_size (take n modes) }
+// The table of the first n modes.
+fn mode_slots(modes: &[Mode]) -> [ModeSlot; Card::MODES]
+    requires { length modes.now ≤ 16 }
+    ensures { result ≡ filled 16 no_mode (map mode_slot modes.now) }
 {
     let mut slots = empty_modes();
-    let mut size: usize = 0;
-    let mut i: usize = 0;
-    while i < n {
-        let m = modes[i];
-        let s = mode_slot(m);
-        slots[i] = s;
-        size = larger_of(size, reply_size(m));
-        i += 1;
+    for (i, m) in modes.iter().enumerate() {
+        slots[i] = mode_slot(*m);
     }
-    ModeSlots {
-        slots: slots,
-        size: size,
-    }
+    slots
 }
 
 fn copied(area: &[u8]) -> [u8; Card::AREA]
@@ -364,15 +260,11 @@ fn copied(area: &[u8]) -> [u8; Card::AREA]
     ensures { result ≡ filled 1024 0 area.now }
 {
     let mut whole = empty_area();
-    let mut i: usize = 0;
-    while i < area.len() {
-        whole[i] = area[i];
-        i += 1;
-    }
+    whole[..area.len()].copy_from_slice(area);
     whole
 }
 
-// What a refused load hands back in the place of a card.
+// What a refused load returns in the place of a card.
 pub fn blank() -> Card
     ensures { result ≡ blank_card }
 {
@@ -404,30 +296,28 @@ pub fn load(
 ) -> Loaded
     ensures { result ≡ loaded l sets n modes m area.now div_data shill_key shill_handle }
 {
-    let number = fault(l, sets, n, modes, m, area.len(), shill_key, shill_handle);
-    if number != 0 {
-        let card = blank();
-        return Loaded {
-            number: number,
-            card: card,
-        };
-    }
-    let held = mode_slots(modes, m);
-    let slots = held.slots;
-    let card = Card {
-        sets: set_slots(sets, n),
-        modes: slots,
-        area: copied(area),
-        div_data: div_data,
-        shill_key: wide(shill_key),
-        shill_handle: shill_handle,
-        key_length: l,
-        reply_size: held.size,
-        session: Session::none(),
-        tries: Tries::none(),
-    };
-    Loaded {
-        number: 0,
-        card: card,
+    match fault(l, sets, n, modes, m, area.len(), shill_key, shill_handle) {
+        Err(refusal) => Loaded {
+            number: refusal.number(),
+            card: blank(),
+        },
+        Ok(()) => {
+            let given = &modes[..m];
+            Loaded {
+                number: 0,
+                card: Card {
+                    sets: set_slots(sets, n),
+                    modes: mode_slots(given),
+                    area: copied(area),
+                    div_data: div_data,
+                    shill_key: wide(shill_key),
+                    shill_handle: shill_handle,
+                    key_length: l,
+                    reply_size: largest_size(given),
+                    session: Session::none(),
+                    tries: Tries::none(),
+                },
+            }
+        }
     }
 }

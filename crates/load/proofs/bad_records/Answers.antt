@@ -1,16 +1,14 @@
--- `bad_records` meets its contract. What is left to look at, with what was seen, is the whole (Turns). Assumes nothing.
-use mathlib.Core.Path.{ap, ◌∙◌}
-use mathlib.Core.Bool.{Bool, ◌||◌}
-use Rattle.load.specs.Load.{past_mode}
-use Rattle.load.proofs.Turns.{some_turn, some-done}
-use Rattle.std.proofs.Common.{rules}
+-- `bad_records` meets its contract: the fold is the look for an element (Turns). Assumes nothing.
+use Rattle.std.proofs.Common.{Bool, false, ◌||◌, ◌∙◌, rules}
+use Rattle.std.proofs.lemmas.Iterator.{YieldsList-from_slice}
+use Rattle.std.proofs.lemmas.Iterator.Consumers.{fold_from_yields_List}
+use Rattle.plaid_types.specs.declared.Mode.{Mode}
+use Rattle.load.specs.Load.{bad_record}
+use Rattle.load.proofs.Turns.{fold-some}
 use Rattle.load.proofs.bad_records.Goals as goal
 
-pub loop-i-preserved : goal.loop-i-preserved
-loop-i-preserved c =
-    some_turn _ _ _ _ past_mode c.loop-i.r _ _ c.loop-i-test.true (search rules)
-    (c.either-r.ensures ∙ ap (λ (t : Bool). c.loop-i.r || t) c.bad_record.ensures)
-    c.loop-i.invariant
-
 pub returns : goal.returns
-returns c = some-done _ _ _ _ c.loop-i.r _ c.loop-i-test.false c.loop-i.invariant
+returns c =
+    let p : Mode → Bool = bad_record c.args.area in
+    fold_from_yields_List _ (λ b x. b || p x) false _ c.fold.ensures.ran (YieldsList-from_slice c.args.modes.now cc) (λ a x b q k. search rules)
+    ∙ fold-some p c.args.modes.now false

@@ -1,23 +1,25 @@
--- `fault` meets its contract: each answer is that of the tests that led there (Tests). Assumes nothing.
-use mathlib.Core.Path.{sym, ap, ◌∙◌}
-use mathlib.Core.Bool.{not}
-use Rattle.load.proofs.Tests.{no_length, from-sets, from-modes}
+-- `fault` meets its contract, by its tests. Assumes nothing.
+use Rattle.std.proofs.Common.{arith}
+use Rattle.std.proofs.lemmas.Bool.Decides.{nat_tests}
+use Rattle.std.proofs.lemmas.Result.{err_from_is_err_and}
+use Rattle.load.specs.Load.{refusal}
+use Rattle.load.proofs.Refused.{number-some}
 use Rattle.load.proofs.fault.Goals as goal
 
 pub returns-then-not-is_key_length : goal.returns-then-not-is_key_length
-returns-then-not-is_key_length c =
-    let a = c.args in
-    no_length a.l a.sets a.n a.modes a.m a.area a.key a.handle (ap not (sym c.is_key_length.ensures) ∙ ap not c.if-not-is_key_length.true)
+unfolding refusal
+returns-then-not-is_key_length c = grind (arith, nat_tests)
 
-pub returns-then-number-ne0 : goal.returns-then-number-ne0
-returns-then-number-ne0 c =
-    let a = c.args in
-    from-sets a.l a.sets a.n a.modes a.m a.area a.key a.handle c.wrong_length.result c.sets_fault-number.result
-    (ap not (sym c.is_key_length.ensures) ∙ ap not c.if-not-is_key_length.false) c.wrong_length.ensures c.sets_fault-number.ensures c.if-number-ne0.true
+pub returns-in_err-sets_fault : goal.returns-in_err-sets_fault
+unfolding refusal
+returns-in_err-sets_fault c =
+    let p = err_from_is_err_and c.from_residual.result c.from_residual.ensures.1 in
+    let e = c.in_err-sets_fault.ensures in
+    let s = number-some c.in_err-sets_fault.field-0.0 in
+    rw (p.1, p.2) (grind (arith, nat_tests))
 
 pub returns : goal.returns
+unfolding refusal
 returns c =
-    let a = c.args in
-    c.modes_fault.ensures
-    ∙ from-modes a.l a.sets a.n a.modes a.m a.area a.key a.handle c.wrong_length.result c.sets_fault-number.result
-    (ap not (sym c.is_key_length.ensures) ∙ ap not c.if-not-is_key_length.false) c.wrong_length.ensures c.sets_fault-number.ensures c.if-number-ne0.false
+    let e = c.in_ok-sets_fault.ensures in
+    grind (arith, nat_tests)

@@ -1,12 +1,7 @@
--- `repeats` meets its contract. What is left to look at is the whole (Turns). Assumes nothing.
-use Prim.Native.Nat.{◌-◌}
-use mathlib.Core.Path.{◌≡◌}
-use lib.ListN.{take, drop}
+-- `repeats`: what is left to look at is the whole. Assumes nothing.
+use Rattle.std.proofs.Common.{◌≡◌, drop}
 use Rattle.load.specs.Load.{repeated}
 use Rattle.load.proofs.repeats.Given as goal
 
 abbrev pub invariant-loop-i : goal.invariant-loop-i
-invariant-loop-i l = repeated (drop l.i (take l.n l.ids)) ≡ repeated (take l.n l.ids)
-
-abbrev pub decreases-loop-i : goal.decreases-loop-i
-decreases-loop-i l = l.n - l.i
+invariant-loop-i l = repeated (drop l.i l.ids) ≡ repeated l.ids

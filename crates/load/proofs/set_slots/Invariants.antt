@@ -1,13 +1,7 @@
--- `set_slots` meets its contract. What is copied so far is the loop's law (Turns). Assumes nothing.
-use Prim.Native.Nat.{◌-◌, ◌≤◌}
-use mathlib.Core.Path.{◌≡◌}
-use lib.Seq.{paste}
-use mathlib.Core.List.{map}
-use Rattle.load.specs.Load.{set_slot}
+-- `set_slots`: the first slots are filled. Assumes nothing.
+use Rattle.std.proofs.Common.{◌≡◌, take}
+use Rattle.load.specs.Load.{table_of}
 use Rattle.load.proofs.set_slots.Given as goal
 
 abbrev pub invariant-loop-i : goal.invariant-loop-i
-invariant-loop-i l = (l.i ≤ l.n) × (l.slots ≡ paste l.initial.slots 0 (map set_slot l.sets) l.i)
-
-abbrev pub decreases-loop-i : goal.decreases-loop-i
-decreases-loop-i l = l.n - l.i
+invariant-loop-i l = l.slots ≡ table_of (take l.i l.k-items)
