@@ -1,8 +1,8 @@
 -- A refusal has a number: 0 tells that there is none. Assumes nothing.
-use Rattle.std.proofs.Common.{◌≡◌, ℕ, ◌<◌, Result, Ok, Err, lit<, arith}
+use Rattle.std.proofs.Common.{◌<◌, lit<}
 use Rattle.refusals.specs.declared.Refusal.{Refusal}
 use Rattle.refusals.specs.declared.Refusal.TheVariants.{KeySetCount, KeySetRepeated, ShillHandle, ModeCount, ModeRepeated, Record, FreshCount, PadByte, Output, ListCount, ListRepeated, ListOutput, Blocks, NoneOpens, Payload, SealOutput, Response, WorkBuffer, Authentication, KeyLength, ValueLength, ConversionLength, Parity, BadCharacter, Interface}
-use Rattle.refusals.specs.Numbers.{number_of, number_told}
+use Rattle.refusals.specs.Numbers.{number_of}
 
 pub number-some : (r : Refusal) → 0 < number_of r
 number-some KeySetCount = lit< tt

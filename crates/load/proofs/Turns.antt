@@ -1,5 +1,5 @@
 -- The folds and loops of a load: one looks for an element, one for a repeated number, one for the largest reply size, one copies into slots. Assumes nothing.
-use Prim.Native.Nat.{ℕ, zero, suc, ◌+◌, ◌-◌, ◌<◌, ◌≤◌}
+use Prim.Native.Nat.{ℕ, suc, ◌+◌, ◌-◌, ◌<◌, ◌≤◌}
 use Rattle.std.proofs.Common.{◌≡◌, refl, sym, ap, ◌∙◌, arith, ltb-true, ltb-false, Bool, true, false, ◌||◌, List, [], ◌∷◌, ◌++◌, map, max, ltb, cond, length, get_or, take, drop, set, length-take-le, add-one, append_assoc}
 use mathlib.Core.Bool.{or-false, or_assoc}
 use Rattle.std.specs.List.{fold, take-map}
@@ -11,7 +11,7 @@ use Rattle.std.proofs.Math.ListN.{replicate, length-map}
 use Rattle.std.proofs.Math.Seq.{set-append_seam, take-suc}
 use Rattle.plaid_types.specs.declared.Mode.{Mode}
 use Rattle.load.specs.Load.{some, repeated, filled, reply_size_for, larger, largest_size}
-use Rattle.load.proofs.Laws.{larger-assoc, larger-none, larger-than-none}
+use Rattle.load.proofs.Laws.{larger-assoc, larger-than-none}
 
 -- the look for an element
 pub fold-some : {A : Type 0} (p : A → Bool) (l : List A) (r : Bool) → fold (λ b x. b || p x) r l ≡ (r || some p l)

@@ -1,5 +1,5 @@
 -- `load` meets its contract: what it calls finds the fault, and with no fault, what that shows is what the copies ask. Assumes nothing.
-use Rattle.std.proofs.Common.{◌≡◌, sym, ◌∙◌, length, get_or, length-take, rules, arith}
+use Rattle.std.proofs.Common.{◌≡◌, sym, length, get_or, length-take, rules, arith}
 use Rattle.load.specs.Load.{past_set, loaded_card}
 use Rattle.load.proofs.Laws.{accepted, key-within, set-right, load-made, load-refused}
 use Rattle.load.proofs.Refused.{number-some}
