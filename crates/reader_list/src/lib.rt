@@ -79,7 +79,7 @@ pub fn list(ids: [KeySetId; Reader::IDS], count: usize, out: &mut [u8]) -> Writt
         return declined(11);
     }
     let all = numbers(ids);
-    if load::repeats(&all, count) {
+    if load::repeats(&all[..count]) {
         return declined(12);
     }
     if out.len() < 4 * count + 8 {
