@@ -1,13 +1,13 @@
 -- Loops that mix a list from the front: what is left of it, mixed into the sum now, is the whole of it, mixed into the first. Assumes nothing.
-use mathlib.Core.Path.{◌≡◌, sym, ap, ◌∙◌}
-use mathlib.Core.List.{List, [], flatten}
-use Prim.Native.Nat.{ℕ, suc, ◌+◌, ◌-◌, ◌*◌, ◌^◌, ◌<◌, ◌≤◌}
+use mathlib.Core.Path.{◌≡◌, refl, sym, ap, ◌∙◌}
+use mathlib.Core.List.{List, [], ◌++◌, flatten, append_assoc}
+use Prim.Native.Nat.{ℕ, zero, suc, ◌+◌, ◌-◌, ◌*◌, ◌^◌, ◌<◌, ◌≤◌}
 use native.Mathlib.Nat.{mul-le-mul_left}
 use native.Mathlib.Numerals.{add-one}
 use native.Mathlib.Omega.{arith}
 use lib.ListN.{length, take, drop, get_or, drop_of_length-le, length-drop, take-append-drop}
 use lib.Seq.{drop-cons, drop-drop}
-use Rattle.octets.specs.Lists.{part}
+use Rattle.std.specs.Simd.{first_chunks}
 use Rattle.work.specs.Steps.{mixed, mixed_all}
 use Rattle.work.specs.Laws.{mixed_all-append}
 use Rattle.work.specs.Weights.{weight, weighed}
@@ -26,15 +26,19 @@ pub rows-done : (l : List (List ℕ)) (i s all : ℕ) → length l ≤ i → mix
 unfolding flatten
 rows-done l i s all h q = rw (drop_of_length-le l h) at q
 
--- a block of sixteen is the front of what is left
-pub blocks-turn : (l : List ℕ) (i s s' all : ℕ) → s' ≡ mixed_all s (part l i 16) → mixed_all s (drop i l) ≡ all → mixed_all s' (drop (i + 16) l) ≡ all
-unfolding part
-blocks-turn l i s s' all e q =
-    ap (λ (t : ℕ). mixed_all t (drop (i + 16) l)) e
-    ∙ ap (mixed_all (mixed_all s (take 16 (drop i l)))) (sym (drop-drop 16 i l))
-    ∙ sym (mixed_all-append s (take 16 (drop i l)) (drop 16 (drop i l)))
-    ∙ ap (mixed_all s) (take-append-drop 16 (drop i l))
-    ∙ q
+-- the blocks of sixteen, and what is left behind them
+blocks-whole : (k : ℕ) (l : List ℕ) → flatten (first_chunks 16 k l) ++ drop (k * 16) l ≡ l
+unfolding flatten
+blocks-whole zero l = refl
+blocks-whole (suc k) l =
+    let m : suc k * 16 ≡ 16 + k * 16 = omega arith in
+    append_assoc (take 16 l) (flatten (first_chunks 16 k (drop 16 l))) (drop (suc k * 16) l)
+    ∙ ap (λ (x : List ℕ). take 16 l ++ (flatten (first_chunks 16 k (drop 16 l)) ++ x)) (ap (λ (n : ℕ). drop n l) m ∙ sym (drop-drop (k * 16) 16 l))
+    ∙ ap (λ (x : List ℕ). take 16 l ++ x) (blocks-whole k (drop 16 l))
+    ∙ take-append-drop 16 l
+
+pub blocks-done : (k s : ℕ) (l : List ℕ) → mixed_all (mixed_all s (flatten (first_chunks 16 k l))) (drop (k * 16) l) ≡ mixed_all s l
+blocks-done k s l = sym (mixed_all-append s (flatten (first_chunks 16 k l)) (drop (k * 16) l)) ∙ ap (mixed_all s) (blocks-whole k l)
 
 -- one byte by its weight
 pub weights-turn : (l : List ℕ) (i w s s' all : ℕ) → i < length l → w ≡ weight (length l - suc i) → s' ≡ s + w * get_or l i 0 → s + weighed (drop i l) ≡ all → s' + weighed (drop (i + 1) l) ≡ all

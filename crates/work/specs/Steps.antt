@@ -1,5 +1,7 @@
 -- The steps of a command, their counts and the work sum.
 use Rattle.std.specs.Prelude.{cond, List, [], ◌∷◌, ◌++◌, ℕ, ◌+◌, ◌*◌, ◌%◌, ◌^◌, eqb}
+use Rattle.work.specs.declared.Kind.{Kind}
+use Rattle.work.specs.declared.Kind.TheVariants.{Comparison, Decipherment, Encipherment, Expansion, HashBlock}
 
 -- a step has a "kind, key, input and output"
 pub record Step : Type 0 where
@@ -23,6 +25,13 @@ expansion = 4
 
 abbrev pub hash_block : ℕ
 hash_block = 5
+
+abbrev pub number_of_kind : Kind → ℕ
+number_of_kind Comparison = comparison
+number_of_kind Decipherment = decipherment
+number_of_kind Encipherment = encipherment
+number_of_kind Expansion = expansion
+number_of_kind HashBlock = hash_block
 
 -- "Each [count] is the number of steps of its kind in the list above."
 abbrev pub counted : ℕ → List Step → ℕ

@@ -1,23 +1,41 @@
 #![tactic(auto)]
 
 // The work sum over a command's steps.
-ghost use Rattle.std.specs.Prelude.{◌≡◌, ◌/◌, ◌%◌, ◌^◌, ◌<◌, length, drop};
+ghost use Rattle.std.specs.Prelude.{◌≡◌, ◌/◌, ◌%◌};
 ghost use mathlib.Core.List.{flatten};
-ghost use Rattle.work.specs.Steps.{bytes_of, mixed, mixed_all};
+ghost use Rattle.work.specs.Steps.{number_of_kind, bytes_of, mixed, mixed_all};
 ghost use Rattle.work.specs.Weights.{weight, prepared_of, mixed_prepared};
+
+// The kinds of steps, with their numbers in the work sum.
+#[derive(Clone, Copy, Debug, PartialEq, Eq)]
+pub enum Kind {
+    Comparison = 1,
+    Decipherment = 2,
+    Encipherment = 3,
+    Expansion = 4,
+    HashBlock = 5,
+}
+
+impl Kind {
+    pub fn number(self) -> u8
+        ensures { result ≡ number_of_kind self }
+    {
+        self as u8
+    }
+}
 
 // One byte into the sum. The product fits 64 bits, and is then taken modulo 2^32.
 pub fn mix(s: u32, b: u8) -> u32
     ensures { result ≡ mixed s b }
 {
-    ((257 * (s as u64) + (b as u64) + 1) % 0x1_0000_0000) as u32
+    ((257 * u64::from(s) + u64::from(b) + 1) % 0x1_0000_0000) as u32
 }
 
 // The two bytes of a number, the high one first, at once.
 pub fn mix_two(s: u32, v: u16) -> u32
     ensures { result ≡ mixed (mixed s (v / 256)) (v % 256) }
 {
-    ((66049 * (s as u64) + (v as u64) + ((v / 256) as u64) + 258) % 0x1_0000_0000) as u32
+    ((66049 * u64::from(s) + u64::from(v) + u64::from(v / 256) + 258) % 0x1_0000_0000) as u32
 }
 
 // The weights of sixteen bytes, 257^15 to 257^0, modulo 2^32.
@@ -30,25 +48,30 @@ const WEIGHTS: [u64; 16] = [
 pub fn mix_block(s: u32, b: [u8; 16]) -> u32
     ensures { result ≡ mixed_all s b }
 {
-    let weights = WEIGHTS;
-    let mut sum = 813174785 * (s as u64) + 506492944;
-    let mut i: usize = 0;
-    while i < 16 {
-        sum += weights[i] * (b[i] as u64);
-        i += 1;
+    let mut sum = 813174785 * u64::from(s) + 506492944;
+    for (i, x) in b.iter().enumerate() {
+        sum += WEIGHTS[i] * u64::from(*x);
     }
     (sum % 0x1_0000_0000) as u32
 }
 
-// The bytes from a place on, one by one.
-fn mix_from(s: u32, bytes: &[u8], at: usize) -> u32
-    ensures { result ≡ mixed_all s (drop at bytes.now) }
+// Rows one after the other, as an expansion's output.
+pub fn mix_rows(s: u32, rows: &[[u8; 16]]) -> u32
+    ensures { result ≡ mixed_all s (flatten rows.now) }
 {
     let mut sum = s;
-    let mut i = at;
-    while i < bytes.len() {
-        sum = mix(sum, bytes[i]);
-        i += 1;
+    for row in rows {
+        sum = mix_block(sum, *row);
+    }
+    sum
+}
+
+fn mix_each(s: u32, bytes: &[u8]) -> u32
+    ensures { result ≡ mixed_all s bytes.now }
+{
+    let mut sum = s;
+    for b in bytes {
+        sum = mix(sum, *b);
     }
     sum
 }
@@ -57,13 +80,9 @@ fn mix_from(s: u32, bytes: &[u8], at: usize) -> u32
 pub fn mix_all(s: u32, bytes: &[u8]) -> u32
     ensures { result ≡ mixed_all s bytes.now }
 {
-    let mut sum = s;
-    let mut i = 0;
-    while 16 <= bytes.len() - i {
-        sum = mix_block(sum, octets::block_at(bytes, i));
-        i += 16;
-    }
-    mix_from(sum, bytes, i)
+    let (blocks, rest) = bytes.as_chunks::<16>();
+    let after_blocks = mix_rows(s, blocks);
+    mix_each(after_blocks, rest)
 }
 
 // One step: its kind, key, input and output, in this order.
@@ -91,10 +110,8 @@ fn weight_of(n: usize) -> u32
         return 813174785;
     }
     let mut w: u32 = 1;
-    let mut k: usize = 0;
-    while k < n {
-        w = ((257 * (w as u64)) % 0x1_0000_0000) as u32;
-        k += 1;
+    for _ in 0..n {
+        w = ((257 * u64::from(w)) % 0x1_0000_0000) as u32;
     }
     w
 }
@@ -111,7 +128,7 @@ pub fn prepare(bytes: &[u8]) -> Prepared
 fn mix_prepared(s: u32, l: Prepared) -> u32
     ensures { result ≡ mixed_prepared s l }
 {
-    (((l.weight as u64) * (s as u64) + (l.rest as u64)) % 0x1_0000_0000) as u32
+    ((u64::from(l.weight) * u64::from(s) + u64::from(l.rest)) % 0x1_0000_0000) as u32
 }
 
 // One step of a cipher, with its key prepared.
@@ -122,19 +139,4 @@ pub fn mix_cipher(s: u32, kind: u8, key: Prepared, input: [u8; 16], output: [u8;
     let after_key = mix_prepared(after_kind, key);
     let after_input = mix_block(after_key, input);
     mix_block(after_input, output)
-}
-
-// Round keys, an expansion's output: the rows one behind the other. They are counted in 32 bits, which a small processor has in one register.
-pub fn mix_rows(s: u32, rows: &[[u8; 16]]) -> u32
-    requires { length rows.now < 2 ^ 32 }
-    ensures { result ≡ mixed_all s (flatten rows.now) }
-{
-    let n = rows.len() as u32;
-    let mut sum = s;
-    let mut row: u32 = 0;
-    while row < n {
-        sum = mix_block(sum, rows[row as usize]);
-        row += 1;
-    }
-    sum
 }

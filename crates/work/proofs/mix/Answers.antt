@@ -1,8 +1,7 @@
 -- `mix` meets its contract: the code is the definition, opened. Assumes nothing.
-use mathlib.Core.Path.{refl}
 use Rattle.work.specs.Steps.{mixed}
 use Rattle.work.proofs.mix.Goals as goal
 
 pub returns : goal.returns
 unfolding mixed
-returns c = refl
+returns c = rw (c.from.ensures, c.from-2.ensures)

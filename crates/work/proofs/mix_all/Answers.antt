@@ -1,18 +1,17 @@
--- `mix_all` meets its contract. The loop's law is that of Turns. Assumes nothing.
-use mathlib.Core.Path.{refl, ap, ◌∙◌}
-use native.Mathlib.Omega.{arith}
+-- `mix_all` meets its contract: the blocks and what is left make up the whole (Turns). Assumes nothing.
+use Rattle.std.proofs.Common.{ℕ, List, ◌*◌, ◌/◌, length, ap, ◌∙◌}
+use mathlib.Core.List.{flatten}
+use lib.ListN.{drop}
 use Rattle.work.specs.Steps.{mixed_all}
-use Rattle.work.proofs.Turns.{blocks-turn}
-use Rattle.std.proofs.Common.{rules}
+use Rattle.work.proofs.Turns.{blocks-done}
 use Rattle.work.proofs.mix_all.Goals as goal
 
-pub loop-i-init : goal.loop-i-init
-loop-i-init c = (search rules, refl)
-
-pub loop-i-preserved : goal.loop-i-preserved
-loop-i-preserved c =
-    let l = c.loop-i in
-    (omega arith, blocks-turn _ l.i l.sum _ _ (c.mix_block-sum.ensures ∙ ap (mixed_all l.sum) c.block_at.ensures) l.invariant.1)
-
 pub returns : goal.returns
-returns c = c.mix_from.ensures ∙ c.loop-i.invariant.1
+returns c =
+    let a = c.args in
+    let n = length a.bytes.now / 16 in
+    let k = c.as_chunks.ensures in
+    c.mix_each.ensures
+    ∙ ap (mixed_all _) k.back
+    ∙ ap (λ (t : ℕ). mixed_all t (drop (n * 16) a.bytes.now)) (c.mix_rows-after_blocks.ensures ∙ ap (λ (r : List (List ℕ)). mixed_all a.s (flatten r)) k.front)
+    ∙ blocks-done n a.s a.bytes.now

@@ -1,7 +1,6 @@
 -- `mix_prepared` meets its contract: the code is the definition, opened. Assumes nothing.
 -- a product of two words, and a word more
 use Prim.Native.Nat.{ℕ, ◌-◌, ◌*◌, ◌^◌, ◌<◌, ◌≤◌}
-use mathlib.Core.Path.{refl}
 use native.Mathlib.Nat.{mul-le-mul_left}
 use native.Mathlib.Omega.{arith}
 use mir.Syntax.{w32}
@@ -18,14 +17,15 @@ pub overflow_mul-result : goal.overflow_mul-result
 overflow_mul-result c =
     let a : Fits w32 c.args.l.weight = search rules in
     let s : Fits w32 c.args.s = search rules in
-    record { fits = omega (arith, product c.args.l.weight c.args.s a.fits s.fits) }
+    rw (c.from.ensures, c.from-2.ensures) (record { fits = omega (arith, product c.args.l.weight c.args.s a.fits s.fits) })
 
 pub overflow_add-result : goal.overflow_add-result
 overflow_add-result c =
     let a : Fits w32 c.args.l.weight = search rules in
     let b : Fits w32 c.args.l.rest = search rules in
     let s : Fits w32 c.args.s = search rules in
-    record { fits = omega (arith, product c.args.l.weight c.args.s a.fits s.fits, b.fits) }
+    rw (c.from.ensures, c.from-2.ensures, c.from-3.ensures)
+    (record { fits = omega (arith, product c.args.l.weight c.args.s a.fits s.fits, b.fits) })
 
 pub returns : goal.returns
-returns c = refl
+returns c = rw (c.from.ensures, c.from-2.ensures, c.from-3.ensures)

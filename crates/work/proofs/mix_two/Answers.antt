@@ -17,4 +17,5 @@ pub returns : goal.returns
 returns c =
     let v = c.args.v in
     let s : Fits w32 c.args.s = search rules in
-    ap (λ (n : ℕ). n % 2 ^ 32) (split c.args.s v) ∙ sym (mixed-weighed c.args.s (v / 256 ∷ v % 256 ∷ []) s.fits)
+    rw (c.from.ensures, c.from-2.ensures, c.from-3.ensures)
+    (ap (λ (n : ℕ). n % 2 ^ 32) (split c.args.s v) ∙ sym (mixed-weighed c.args.s (v / 256 ∷ v % 256 ∷ []) s.fits))
