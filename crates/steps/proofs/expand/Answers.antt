@@ -42,11 +42,6 @@ slice_bounds-mix_rows-end c =
     let k = c.args.key.now in
     sym (length-lent k c.expand-rows.ensures)
 
-pub mix_rows-c-requires : goal.mix_rows-c-requires
-mix_rows-c-requires c =
-    let k = c.args.key.now in
-    omega (arith, length-lent k c.expand-rows.ensures, length_most (length k) c.requires.1)
-
 pub returns : goal.returns
 returns c =
     let a = c.args in
