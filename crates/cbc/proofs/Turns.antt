@@ -68,16 +68,16 @@ told : {n m s t : ℕ} → n ≡ m → s ≡ t → ◌≡◌ {A = Made} (record 
 told p q = rw (p, q)
 
 -- all n steps made: how many they are, and the work sum
-module _ (key : List ℕ) (f : List ℕ → List ℕ) (text text₀ : List ℕ) (n j sum sum₀ : ℕ) (all_made : j ≡ n) where
+module _ (key : List ℕ) (f : List ℕ → List ℕ) (text text₀ : List ℕ) (n j count sum sum₀ : ℕ) (all_made : j ≡ n) (counted_all : count ≡ n) where
   none_left : n - j ≡ 0
   none_left = omega arith
 
   pub enciphered-done : (c c₀ : List ℕ) → sum_from sum (enciphered key f c (n - j) text) ≡ sum_from sum₀ (enciphered key f c₀ n text₀) →
-      record { count = j; sum = sum } ≡ made encipherment sum₀ (enciphered key f c₀ n text₀)
+      record { count = count; sum = sum } ≡ made encipherment sum₀ (enciphered key f c₀ n text₀)
   unfolding enciphered
-  enciphered-done c c₀ e = told (all_made ∙ sym (counted-enciphered key f n c₀ text₀)) (rw none_left at e)
+  enciphered-done c c₀ e = told (counted_all ∙ sym (counted-enciphered key f n c₀ text₀)) (rw none_left at e)
 
   pub deciphered-done : sum_from sum (deciphered key f (n - j) text) ≡ sum_from sum₀ (deciphered key f n text₀) →
-      record { count = j; sum = sum } ≡ made decipherment sum₀ (deciphered key f n text₀)
+      record { count = count; sum = sum } ≡ made decipherment sum₀ (deciphered key f n text₀)
   unfolding deciphered
-  deciphered-done e = told (all_made ∙ sym (counted-deciphered key f n text₀)) (rw none_left at e)
+  deciphered-done e = told (counted_all ∙ sym (counted-deciphered key f n text₀)) (rw none_left at e)

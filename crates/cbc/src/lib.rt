@@ -11,7 +11,7 @@ ghost use Rattle.work.specs.Weights.{mixed_prepared};
 ghost use Rattle.cbc.specs.Cbc.{◌⊕◌, encrypted_whole, decrypted_whole};
 ghost use Rattle.cbc.specs.Steps.{enciphered, deciphered, made};
 
-use work::Prepared;
+use work::{Kind, Prepared};
 
 // How many steps were made, and the work sum after them.
 #[derive(Clone, Copy)]
@@ -27,11 +27,6 @@ struct Stepped {
     count: usize,
     sum: u32,
 }
-
-// The kinds of a step.
-const DECIPHERMENT: u8 = 2;
-
-const ENCIPHERMENT: u8 = 3;
 
 // One block encrypted after the block before it. The key is only what the work sum shows, and prepared for that.
 fn encipher_block(
@@ -52,7 +47,7 @@ fn encipher_block(
     Stepped {
         block: output,
         count: made,
-        sum: work::mix_cipher(sum, ENCIPHERMENT, key, input, output),
+        sum: work::mix_cipher(sum, Kind::Encipherment.number(), key, input, output),
     }
 }
 
@@ -75,7 +70,7 @@ fn decipher_block(
     Stepped {
         block: plain,
         count: made,
-        sum: work::mix_cipher(sum, DECIPHERMENT, key, cipher, output),
+        sum: work::mix_cipher(sum, Kind::Decipherment.number(), key, cipher, output),
     }
 }
 
@@ -90,8 +85,8 @@ pub fn encipher(key: &[u8], w: &[[u8; 16]], start: [u8; 16], text: &mut [u8], su
     let mut chained = start;
     let mut count: usize = 0;
     let mut after = sum;
-    while count < blocks {
-        let at = 16 * count;
+    for n in 0..blocks {
+        let at = 16 * n;
         let plain = octets::block_at(text, at);
         let step = encipher_block(&table, shown, w, chained, plain, count, after);
         let cipher = step.block;
@@ -117,8 +112,8 @@ pub fn decipher(key: &[u8], w: &[[u8; 16]], start: [u8; 16], text: &mut [u8], su
     let mut previous = start;
     let mut count: usize = 0;
     let mut after = sum;
-    while count < blocks {
-        let at = 16 * count;
+    for n in 0..blocks {
+        let at = 16 * n;
         let cipher = octets::block_at(text, at);
         let step = decipher_block(&table, shown, w, previous, cipher, count, after);
         let plain = step.block;

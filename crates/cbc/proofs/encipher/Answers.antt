@@ -13,8 +13,8 @@ use Rattle.cbc.proofs.Turns.{text-turn, enciphered-turn, text-done, enciphered-d
 use Rattle.std.proofs.Common.{rules}
 use Rattle.cbc.proofs.encipher.Goals as goal
 
-pub loop-count-init : goal.loop-count-init
-loop-count-init c = (refl, search rules, refl, simp sub-zero)
+pub loop-n-init : goal.loop-n-init
+loop-n-init c = (refl, search rules, refl, simp sub-zero)
 
 pub encipher_block-step-requires : goal.encipher_block-step-requires
 encipher_block-step-requires c = (c.byte_table-table.ensures, search rules, search rules)
@@ -25,36 +25,36 @@ copy_at-requires c =
     let long : length step.result.block ≡ 16 = search (rules, step.type_inv) in
     omega arith
 
-pub loop-count-preserved : goal.loop-count-preserved
-loop-count-preserved c =
-    let q = c.loop-count.invariant in
+pub loop-n-preserved : goal.loop-n-preserved
+loop-n-preserved c =
+    let q = c.loop-n.invariant in
     let a = c.args in
     let f = cipher_by a.w.now in
-    let summed = prepared-step c.loop-count.after (encipher_step a.key.now f (c.block_at-plain.result ⊕ c.loop-count.chained)) c.prepare-shown.ensures in
+    let summed = prepared-step c.loop-n.after (encipher_step a.key.now f (c.block_at-plain.result ⊕ c.loop-n.chained)) c.prepare-shown.ensures in
     let step = c.encipher_block-step in
-    let x = ap (λ p. p ⊕ c.loop-count.chained) c.block_at-plain.ensures in
+    let x = ap (λ p. p ⊕ c.loop-n.chained) c.block_at-plain.ensures in
     let y = step.ensures.0 ∙ ap f x in
     let long : length step.result.block ≡ 16 = search (rules, step.type_inv) in
-    let text = c.loop-count.text in
+    let text = c.loop-n.text in
     let now = c.copy_at.new.d in
     let put = c.copy_at.ensures in
-    let at = 16 * c.loop-count.count in
-    let further : 16 * step.result.count ≡ at + 16 = omega arith in
+    let at = 16 * c.loop-n.n in
+    let further : 16 * (c.loop-n.n + 1) ≡ at + 16 = omega arith in
     let fits : at + 16 ≤ length text = omega arith in (
       omega arith,
       omega arith,
       text-turn text _ now at _ fits long further put (link f) (link f) _ _ _ y y q.2,
-      enciphered-turn text _ now at _ fits long further put _ f _ _ _ _ _ _ c.loop-count-test.true step.ensures.1 _ _ _ x step.ensures.0 (step.ensures.2 ∙ summed) q.3,
+      enciphered-turn text _ now at _ fits long further put _ f _ _ _ _ _ _ c.loop-n-test.true refl _ _ _ x step.ensures.0 (step.ensures.2 ∙ summed) q.3,
     )
 
 pub shape_of-text : goal.shape_of-text
-shape_of-text c = c.loop-count.invariant.0
+shape_of-text c = c.loop-n.invariant.0
 
 pub returns : goal.returns
 returns c =
-    let l = c.loop-count in
+    let l = c.loop-n in
     let a = c.args in
     let f = cipher_by a.w.now in (
-      enciphered-done _ f _ _ (length a.text.now / 16) l.count _ _ (omega arith) _ _ l.invariant.3,
-      text-done (link f) (link f) l.chained l.text _ (16 * l.count) (omega arith) l.invariant.2 ∙ sym (encrypted-whole f a.start a.text.now),
+      enciphered-done _ f _ _ (length a.text.now / 16) l.n l.count _ _ (omega arith) (omega arith) _ _ l.invariant.3,
+      text-done (link f) (link f) l.chained l.text _ (16 * l.n) (omega arith) l.invariant.2 ∙ sym (encrypted-whole f a.start a.text.now),
     )

@@ -12,5 +12,10 @@ returns c =
     let w = c.args.w.now in
     let x = c.xor_block-input.ensures in
     let y = c.encipher-output.ensures ∙ ap (cipher_by w) x in
-    let a = c.args in
-    (y, refl, c.mix_cipher.ensures ∙ ap₂ (λ i o. mixed_all (mixed_all (mixed_prepared (mixed a.sum encipherment) a.key) i) o) x y)
+    let a = c.args in (
+      y,
+      refl,
+      c.mix_cipher.ensures
+          ∙ ap (λ k. mixed_all (mixed_all (mixed_prepared (mixed a.sum k) a.key) c.xor_block-input.result) c.encipher-output.result) c.number.ensures
+          ∙ ap₂ (λ i o. mixed_all (mixed_all (mixed_prepared (mixed a.sum encipherment) a.key) i) o) x y,
+    )
