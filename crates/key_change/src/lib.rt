@@ -7,22 +7,20 @@ ghost use Rattle.key_change.specs.KeyChange.{changed};
 use load::Loaded;
 use plaid_types::{Card, KeySet};
 
-// The first n key sets in the place of the card's. The number of the fault, and the card as it was; or 0, and the card with the new table.
+// The first n key sets in the place of the card's. The number of the fault, and the card as it was; or 0, and the card
+// with the new table.
 pub fn change(card: Card, sets: [KeySet; Card::KEY_SETS], n: usize) -> Loaded
     ensures { result ≡ changed card sets n }
 {
     let l = plaid_types::lawful(card.key_length);
-    let number = load::sets_fault(l, sets, n, false, card.shill_handle);
-    if number != 0 {
-        return Loaded {
-            number: number,
+    match load::sets_fault(l, sets, n, false, card.shill_handle) {
+        Err(refusal) => Loaded {
+            number: refusal.number(),
             card: card,
-        };
-    }
-    let table = load::set_slots(sets, n);
-    let next = card.with_sets(table);
-    Loaded {
-        number: 0,
-        card: next,
+        },
+        Ok(()) => Loaded {
+            number: 0,
+            card: card.with_sets(load::set_slots(sets, n)),
+        },
     }
 }
