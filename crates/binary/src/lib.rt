@@ -59,11 +59,9 @@ pub fn bits_of(bytes: &[u8]) -> [u8; 32]
     ensures { result ≡ bits_of bytes.now }
 {
     let mut bits = [0u8; 32];
-    let mut i: usize = 0;
-    while i < 4 {
-        let eight = bits_of_byte(bytes[i]);
+    for (i, b) in bytes.iter().enumerate() {
+        let eight = bits_of_byte(*b);
         octets::copy_at(&mut bits, 8 * i, &eight);
-        i += 1;
     }
     bits
 }

@@ -4,9 +4,8 @@ use Rattle.std.proofs.Math.Path.{sym}
 use Rattle.std.proofs.Common.{ap, ◌∙◌, subst, append-nil, drop_of_length-le}
 use borrow.Author.Tests.{eq-eqb, ne_eqb, lt-ltb, le-ltb}
 use Rattle.octets.specs.Lists.{over}
-use Rattle.octets.specs.Writes.{over-front}
 use Rattle.conversion.specs.Conversion.{each, converted, output_after}
-use Rattle.conversion.specs.Answers.{number_is}
+use Rattle.conversion.specs.Answers.{number_is, over-all}
 use Rattle.conversion.specs.declared.Converted.{Converted}
 use Rattle.binary.specs.Binary.{binary, bits_of}
 use Rattle.binary.specs.Places.{by-places}
@@ -31,10 +30,6 @@ fault-record k n e = simp (ne_eqb k 25 n, eq-eqb k 24 e)
 pub fault-23 : (k : ℕ) (b : Bool) → (k ≡ 25 → ⊥) → (k ≡ 24 → ⊥) → fault k b ≡ ascii ": 23, wrong length"
 unfolding fault
 fault-23 k b n m = simp (ne_eqb k 25 n, ne_eqb k 24 m)
-
--- a list written over one of its length
-pub over-all : (d s : List ℕ) → length d ≤ length s → over d 0 s ≡ s
-over-all d s h = over-front d s ∙ ap (λ (l : List ℕ). s ++ l) (drop_of_length-le d h) ∙ append-nil s
 
 -- a conversion's number is the one that its definition says
 pub number-told : (k : ℕ) (s : List ℕ) {r : Converted} → r ≡ converted k s → r.number ≡ k

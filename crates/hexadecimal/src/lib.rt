@@ -11,35 +11,14 @@ ghost use Rattle.hexadecimal.specs.Hexadecimal.{is_digit, digit_value, digit, oc
 fn is_digit(c: u8) -> bool
     ensures { result ≡ is_digit c }
 {
-    if c < b'0' {
-        return false;
-    }
-    if c <= b'9' {
-        return true;
-    }
-    if c < b'A' {
-        return false;
-    }
-    if c <= b'F' {
-        return true;
-    }
-    if c < b'a' {
-        return false;
-    }
-    c <= b'f'
+    matches!(c, b'0'..=b'9' | b'A'..=b'F' | b'a'..=b'f')
 }
 
 // Whether every character is one.
 pub fn are_digits(s: &[u8]) -> bool
     ensures { result ≡ each is_digit s.now }
 {
-    let mut ok = true;
-    let mut i: usize = 0;
-    while i < s.len() {
-        ok = octets::both(ok, is_digit(s[i]));
-        i += 1;
-    }
-    ok
+    conversion::each(s, |c| is_digit(c))
 }
 
 // The value of a digit.
@@ -49,13 +28,11 @@ fn digit_value(c: u8) -> u8
     ensures value { result ≡ digit_value c }
     ensures upper_bound { result < 16 }
 {
-    if c <= b'9' {
-        return c - b'0';
+    match c {
+        b'0'..=b'9' => c - b'0',
+        b'A'..=b'F' => c - b'A' + 10,
+        _ => c - b'a' + 10,
     }
-    if c <= b'F' {
-        return c - b'A' + 10;
-    }
-    c - b'a' + 10
 }
 
 // The digit of a value, a small letter from ten on.
@@ -64,10 +41,7 @@ fn digit(v: u8) -> u8
     requires { v < 16 }
     ensures { result ≡ digit v }
 {
-    if v < 10 {
-        return b'0' + v;
-    }
-    b'a' + (v - 10)
+    if v < 10 { b'0' + v } else { b'a' + (v - 10) }
 }
 
 // The octets of some digits, written over the output from a place on.
@@ -75,13 +49,10 @@ pub fn read_digits(digits: &[u8], out: &mut [u8], at: usize)
     requires { (each is_digit digits.now ≡ true) × (at + length (octets_of digits.now) ≤ length out.old) }
     ensures { out.new ≡ over out.old at (octets_of digits.now) }
 {
-    let n = digits.len() / 2;
-    let mut i: usize = 0;
-    while i < n {
+    for i in 0..digits.len() / 2 {
         let high = digit_value(digits[2 * i]);
         let low = digit_value(digits[2 * i + 1]);
         out[at + i] = 16 * high + low;
-        i += 1;
     }
 }
 
@@ -90,11 +61,8 @@ pub fn write_digits(octets: &[u8], out: &mut [u8], at: usize)
     requires { at + 2 * length octets.now ≤ length out.old }
     ensures { out.new ≡ over out.old at (digits_of octets.now) }
 {
-    let mut i: usize = 0;
-    while i < octets.len() {
-        let b = octets[i];
-        let two = [digit(b / 16), digit(b % 16)];
+    for (i, b) in octets.iter().enumerate() {
+        let two = [digit(*b / 16), digit(*b % 16)];
         octets::copy_at(out, at + 2 * i, &two);
-        i += 1;
     }
 }

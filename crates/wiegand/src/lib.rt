@@ -2,47 +2,26 @@
 #![tactic(auto)]
 
 ghost use Rattle.std.specs.Prelude.{◌≡◌, cond, not, map, ℕ, ◌≤◌, length, get_or, drop};
-ghost use Rattle.conversion.specs.Conversion.{each, converted, output_after};
+ghost use Rattle.refusals.specs.Numbers.{number_told};
+ghost use Rattle.conversion.specs.Conversion.{each, converted, output_after, Gives};
 ghost use Rattle.wiegand.specs.Wiegand.{is_bit, bit_of, text_bits, ones, parity_right, with_zeros, character, record_of, text_of, text_number, record_number};
 
 use conversion::Converted;
+use refusals::Refusal;
 
 // Whether a character is 0 or 1.
 fn is_bit(c: u8) -> bool
     ensures { result ≡ is_bit c }
 {
-    if c == b'0' {
-        return true;
-    }
-    c == b'1'
-}
-
-// Whether every character is 0 or 1.
-fn are_bits(text: &[u8]) -> bool
-    ensures { result ≡ each is_bit text.now }
-{
-    let mut ok = true;
-    let mut i: usize = 0;
-    while i < text.len() {
-        ok = octets::both(ok, is_bit(text[i]));
-        i += 1;
-    }
-    ok
+    matches!(c, b'0' | b'1')
 }
 
 // How many ones there are.
+#[tactic(auto, unfolding(crate::specs::Wiegand::ones))]
 fn ones(s: &[u8]) -> usize
     ensures { result ≡ ones s.now }
 {
-    let mut n: usize = 0;
-    let mut i: usize = 0;
-    while i < s.len() {
-        if s[i] == 1 {
-            n += 1;
-        }
-        i += 1;
-    }
-    n
+    s.iter().filter(|b| **b == 1).count()
 }
 
 // Whether both parity bits of a record's 32 bits are right; each is counted with the twelve bits that it is for.
@@ -60,7 +39,7 @@ fn parity_right(bits: &[u8]) -> bool
 fn bit_of(c: u8) -> u8
     ensures { result ≡ bit_of c }
 {
-    if c == b'1' { 1 } else { 0 }
+    u8::from(c == b'1')
 }
 
 // The 32 bits of a text's record: six zeros, and the text's bits.
@@ -69,10 +48,8 @@ fn bits_of_text(text: &[u8]) -> [u8; 32]
     ensures { result ≡ with_zeros (text_bits text.now) }
 {
     let mut low = [0u8; 26];
-    let mut i: usize = 0;
-    while i < 26 {
-        low[i] = bit_of(text[i]);
-        i += 1;
+    for (i, c) in text.iter().enumerate() {
+        low[i] = bit_of(*c);
     }
     let mut bits = [0u8; 32];
     octets::copy_at(&mut bits, 6, &low);
@@ -85,25 +62,32 @@ fn characters(bits: &[u8]) -> [u8; 26]
     ensures { result ≡ map character (drop 6 bits.now) }
 {
     let mut text = [0u8; 26];
-    let mut i: usize = 0;
-    while i < 26 {
-        text[i] = b'0' + bits[6 + i];
-        i += 1;
+    for (i, b) in bits[6..].iter().enumerate() {
+        text[i] = b'0' + *b;
     }
     text
 }
 
-// The number of a text of 26 characters: a bad character goes before wrong parity.
-fn fault(good: bool, right: bool) -> u8
-    ensures { result ≡ cond (not good) 25 (cond (not right) 24 0) }
+// Of a text of 26 characters a bad character is told before wrong parity.
+fn fault(good: bool, right: bool) -> Result<(), Refusal>
+    ensures { number_told result ≡ cond (not good) 25 (cond (not right) 24 0) }
 {
     if !good {
-        return 25;
+        return Err(Refusal::BadCharacter);
     }
-    if !right {
-        return 24;
-    }
-    0
+    if right { Ok(()) } else { Err(Refusal::Parity) }
+}
+
+// The record of a text, for an output of `room` bytes.
+fn record(text: &[u8], room: usize) -> Result<[u8; 4], Refusal>
+    ensures { Gives (text_number text.now room) (record_of text.now) result }
+{
+    conversion::fits(text.len(), 26, room, 4)?;
+    let bits = bits_of_text(text);
+    let good = conversion::each(text, |c| is_bit(c));
+    let right = parity_right(&bits);
+    fault(good, right)?;
+    Ok(binary::bytes_of(&bits))
 }
 
 // A text to its record.
@@ -111,18 +95,24 @@ pub fn to_record(text: &[u8], out: &mut [u8]) -> Converted
     ensures value { result ≡ converted (text_number text.now (length out.old)) (record_of text.now) }
     ensures out_after { out.new ≡ output_after (text_number text.now (length out.old)) (record_of text.now) out.old }
 {
-    if conversion::misfit(text.len(), 26, out.len(), 4) {
-        return conversion::declined(23);
+    let made = record(text, out.len());
+    conversion::told(made, out)
+}
+
+// The text of a record, for an output of `room` bytes.
+fn text(bytes: &[u8], room: usize) -> Result<[u8; 26], Refusal>
+    ensures { Gives (record_number bytes.now room) (text_of bytes.now) result }
+{
+    conversion::fits(bytes.len(), 4, room, 26)?;
+    let bits = binary::bits_of(bytes);
+    let above = ones(&bits[..6]);
+    if above != 0 {
+        return Err(Refusal::Parity);
     }
-    let bits = bits_of_text(text);
-    let good = are_bits(text);
-    let right = parity_right(&bits);
-    let number = fault(good, right);
-    if number != 0 {
-        return conversion::declined(number);
+    if !parity_right(&bits) {
+        return Err(Refusal::Parity);
     }
-    let made = binary::bytes_of(&bits);
-    conversion::done(&made, out)
+    Ok(characters(&bits))
 }
 
 // A record to its text.
@@ -130,17 +120,6 @@ pub fn to_text(bytes: &[u8], out: &mut [u8]) -> Converted
     ensures value { result ≡ converted (record_number bytes.now (length out.old)) (text_of bytes.now) }
     ensures out_after { out.new ≡ output_after (record_number bytes.now (length out.old)) (text_of bytes.now) out.old }
 {
-    if conversion::misfit(bytes.len(), 4, out.len(), 26) {
-        return conversion::declined(23);
-    }
-    let bits = binary::bits_of(bytes);
-    let above = ones(&bits[..6]);
-    if above != 0 {
-        return conversion::declined(24);
-    }
-    if !parity_right(&bits) {
-        return conversion::declined(24);
-    }
-    let made = characters(&bits);
-    conversion::done(&made, out)
+    let made = text(bytes, out.len());
+    conversion::told(made, out)
 }

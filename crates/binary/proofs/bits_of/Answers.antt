@@ -11,15 +11,14 @@ use Rattle.binary.proofs.bits_of.Goals as goal
 
 pub loop-i-init : goal.loop-i-init
 unfolding bits_of
-loop-i-init c = (omega arith, search rules, sym (over_none _ 0))
+loop-i-init c = (search rules, sym (over_none _ 0))
 
 pub loop-i-preserved : goal.loop-i-preserved
 loop-i-preserved c =
     let l = c.loop-i in
     let r = c.args.bytes.now in (
-      omega arith,
       search rules,
-      bits-turn _ r l.i (omega arith) l.invariant.2 (c.copy_at.ensures ∙ ap (over l.bits (8 * l.i)) c.bits_of_byte-eight.ensures),
+      bits-turn _ r l.i (omega arith) l.invariant.1 (c.copy_at.ensures ∙ ap (over l.bits (8 * l.i)) c.bits_of_byte-eight.ensures),
     )
 
 pub returns : goal.returns
@@ -27,4 +26,4 @@ returns c =
     let l = c.loop-i in
     let r = c.args.bytes.now in
     let e : l.i ≡ 4 = omega arith in
-    l.invariant.2 ∙ ap (λ (n : ℕ). over (replicate 32 0) 0 (bits_of (take n r))) e ∙ bits-end r (search rules)
+    l.invariant.1 ∙ ap (λ (n : ℕ). over (replicate 32 0) 0 (bits_of (take n r))) e ∙ bits-end r (search rules)

@@ -9,7 +9,8 @@ use Rattle.hexadecimal.specs.Hexadecimal.{is_digit, octets_of}
 use Rattle.hexadecimal.specs.Laws.{length-octets}
 use Rattle.door_answers.specs.Answer.{of_uuid_record}
 use Rattle.printing.specs.Laws.{written_as}
-use Rattle.door_answers.specs.Ways.{over-all, hexadecimal-fault, hexadecimal-read}
+use Rattle.conversion.specs.Answers.{over-all}
+use Rattle.door_answers.specs.Ways.{hexadecimal-fault, hexadecimal-read}
 use Rattle.std.proofs.Common.{rules}
 use Rattle.door_answers.proofs.uuid_record.Goals as goal
 

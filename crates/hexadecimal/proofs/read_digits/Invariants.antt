@@ -1,5 +1,4 @@
--- `read_digits` meets its contract. The loop's invariant: i octets are written (Writes). Assumes nothing.
-use Prim.Native.Nat.{◌-◌, ◌≤◌}
+-- The loop of `read_digits`: i octets are written (Writes). Assumes nothing.
 use mathlib.Core.Path.{◌≡◌}
 use lib.ListN.{length}
 use lib.Seq.{paste}
@@ -7,7 +6,4 @@ use Rattle.hexadecimal.specs.Hexadecimal.{octets_of}
 use Rattle.hexadecimal.proofs.read_digits.Given as goal
 
 abbrev pub invariant-loop-i : goal.invariant-loop-i
-invariant-loop-i l = (l.i ≤ l.n) × (length l.out ≡ length l.initial.out) × (l.out ≡ paste l.initial.out l.at (octets_of l.digits) l.i)
-
-abbrev pub decreases-loop-i : goal.decreases-loop-i
-decreases-loop-i l = l.n - l.i
+invariant-loop-i l = (length l.out ≡ length l.initial.out) × (l.out ≡ paste l.initial.out l.at (octets_of l.digits) l.i)

@@ -1,20 +1,14 @@
--- `bits_of_text` meets its contract: the bits of i characters are found, and all are written behind six zeros. Assumes nothing.
+-- `bits_of_text` meets its contract: all bits are written after six zeros. Assumes nothing.
 use Prim.Native.Nat.{ℕ}
 use mathlib.Core.Path.{sym, ap, ◌∙◌}
 use mathlib.Core.List.{List, ◌++◌}
 use lib.ListN.{replicate}
 use Rattle.octets.specs.Lists.{over}
-use Rattle.octets.specs.Filled.{filled_none, filled_more, filled-all}
+use Rattle.octets.specs.Filled.{filled-all}
 use Rattle.wiegand.specs.Wiegand.{bit_of}
 use Rattle.binary.specs.Places.{map-places}
 use Rattle.std.proofs.Common.{rules}
 use Rattle.wiegand.proofs.bits_of_text.Goals as goal
-
-pub loop-i-init : goal.loop-i-init
-loop-i-init c = filled_none _ _
-
-pub loop-i-preserved : goal.loop-i-preserved
-loop-i-preserved c = filled_more c.loop-i.invariant (search rules) c.bit_of.ensures
 
 pub returns : goal.returns
 unfolding over

@@ -1,27 +1,22 @@
 -- `characters` meets its contract: the characters of i bits are there. Assumes nothing.
-use Prim.Native.Nat.{◌+◌}
 use mathlib.Core.Path.{sym, ap, ◌∙◌}
-use lib.ListN.{drop, length-drop}
-use lib.Seq.{get_or-drop}
+use Prim.Native.Nat.{ℕ, ◌+◌, ◌-◌}
+use mathlib.Core.List.{List}
+use lib.ListN.{length, get_or, drop, length-drop}
+use lib.Seq.{take_all, get_or-drop}
 use native.Mathlib.Omega.{arith}
-use Rattle.octets.specs.Filled.{filled_none, filled_more, filled-all}
+use Rattle.octets.specs.Filled.{filled-all}
 use Rattle.wiegand.specs.Wiegand.{character}
 use Rattle.binary.specs.Places.{map-places}
 use Rattle.std.proofs.Common.{rules}
 use Rattle.wiegand.proofs.characters.Goals as goal
 
-pub loop-i-init : goal.loop-i-init
-loop-i-init c = filled_none _ _
-
-pub overflow_add-text-in-loop-i : goal.overflow_add-text-in-loop-i
-overflow_add-text-in-loop-i c =
-    omega (arith, c.requires.1 (6 + c.loop-i.i))
-
-pub loop-i-preserved : goal.loop-i-preserved
-loop-i-preserved c =
-    let l = c.loop-i in
+pub overflow_add-text : goal.overflow_add-text
+overflow_add-text c =
     let b = c.args.bits.now in
-    filled_more l.invariant (search rules) (ap character (sym (get_or-drop 6 b l.i 0)))
+    let i = c.loop-i.i in
+    let whole = take_all (length b - 6) (drop 6 b) (omega (arith, length-drop 6 b)) in
+    omega (arith, c.requires.1 (6 + i), get_or-drop 6 b i 0, ap (λ (s : List ℕ). get_or s i 0) whole)
 
 pub returns : goal.returns
 returns c =
