@@ -7,92 +7,81 @@ use std::io::Read;
 
 mod line;
 
-// What is left of a run behind some bytes: the line that they began, and whether more is to be read.
+// What ends a run before the input's end.
 #[derive(Clone, Copy)]
-struct Run {
-    line: Line,
-    open: bool,
+enum Fault {
+    Input,
+    Output,
 }
 
-// Writes the answer to a line; false where it cannot be written.
-fn say(rt: &impl Print, line: Line) -> bool {
-    let all = line.start;
-    let n = line.length;
-    let m = line::kept(n);
+// Writes the answer to a line.
+fn say(rt: &impl Print, line: Line) -> Result<(), Fault> {
     let mut out = [0u8; 512];
-    let k = door_answers::answer(&all[..m], n, &mut out);
-    rt.write_all(&out[..k]).is_ok()
+    let k = door_answers::answer(line.kept(), line.length, &mut out);
+    rt.write_all(&out[..k]).map_err(|_| Fault::Output)
 }
 
-// What cannot be written here is told nowhere.
-fn complain(rt: &impl Eprint, words: &str) {
-    let _ = rt.eprintln(words);
-}
-
-// The bytes that were read, behind the line that those before them began: each line that ends among them is answered.
-fn take(rt: &(impl Print + Eprint), begun: Line, bytes: &[u8]) -> Run {
+// The bytes that were read, after the line that those before them began: each line that ends among them is answered. The line that they begin.
+fn take(rt: &impl Print, begun: Line, bytes: &[u8]) -> Result<Line, Fault> {
     let mut line = begun;
-    let mut i: usize = 0;
-    while i < bytes.len() {
-        let b = bytes[i];
+    for &b in bytes {
         if b == line::LF {
-            if !say(rt, line) {
-                complain(rt, "door: standard output cannot be written");
-                return stopped();
-            }
-            line = line::empty();
+            say(rt, line)?;
+            line = Line::empty();
         } else {
-            line = line::with(line, b);
+            line = line.with(b);
         }
-        i += 1;
     }
-    Run {
-        line: line,
-        open: true,
-    }
-}
-
-// A run that reads no more, with nothing left to answer.
-fn stopped() -> Run {
-    Run {
-        line: line::empty(),
-        open: false,
-    }
+    Ok(line)
 }
 
 // The end of the input: the line that no LF ended is answered, if there is one.
-fn ended(rt: &(impl Print + Eprint), begun: Line) -> Run {
-    let line = line::whole(begun);
+fn ended(rt: &impl Print, begun: Line) -> Result<(), Fault> {
+    let line = begun.whole();
     if 0 < line.length {
-        if !say(rt, line) {
-            complain(rt, "door: standard output cannot be written");
-        }
+        say(rt, line)
+    } else {
+        Ok(())
     }
-    stopped()
 }
 
-// One piece of the input, as much as there is at once.
-fn piece(rt: &(impl Print + Eprint), input: &mut impl Read, begun: Line) -> Run {
+// One piece of the input, as much as there is at once. The line that it begins, or None at the end of the input.
+fn piece(rt: &impl Print, input: &mut impl Read, begun: Line) -> Result<Option<Line>, Fault> {
     let mut buf = [0u8; 4096];
     match input.read(&mut buf) {
-        Ok(0) => ended(rt, begun),
-        Ok(n) => take(rt, begun, &buf[..n]),
-        Err(_) => {
-            complain(rt, "door: standard input cannot be read");
-            stopped()
+        Ok(0) => {
+            ended(rt, begun)?;
+            Ok(None)
         }
+        Ok(n) => Ok(Some(take(rt, begun, &buf[..n])?)),
+        Err(_) => Err(Fault::Input),
     }
 }
 
 // Nothing shows the prover that the input ends, so the pieces are counted up to the largest number, which no input has.
+fn run(rt: &impl Print, input: &mut impl Read) -> Result<(), Fault> {
+    let mut line = Line::empty();
+    for _ in 0..u64::MAX {
+        match piece(rt, input, line)? {
+            Some(begun) => line = begun,
+            None => return Ok(()),
+        }
+    }
+    Ok(())
+}
+
+// What cannot be written here is told nowhere.
+fn complain(rt: &impl Eprint, fault: Fault) {
+    let words = match fault {
+        Fault::Input => "door: standard input cannot be read",
+        Fault::Output => "door: standard output cannot be written",
+    };
+    let _ = rt.eprintln(words);
+}
+
 fn main(rt: HostRuntime) {
     let mut input = rt.stdin();
-    let mut line = line::empty();
-    for _ in 0..u64::MAX {
-        let run = piece(&rt, &mut input, line);
-        if !run.open {
-            return;
-        }
-        line = run.line;
+    if let Err(fault) = run(&rt, &mut input) {
+        complain(&rt, fault);
     }
 }

@@ -1,9 +1,8 @@
 -- What `door` answers, told by the tests that lead there. Assumes nothing.
 use Rattle.std.specs.Prelude.{◌≡◌, refl, Bool, true, false, List, ◌++◌, ℕ, ◌<◌, ◌≤◌, length}
 use Rattle.std.proofs.Math.Path.{sym}
-use Rattle.std.proofs.Common.{ap, ◌∙◌, subst, append-nil, drop_of_length-le}
+use Rattle.std.proofs.Common.{ap, ◌∙◌, subst, append-nil}
 use borrow.Author.Tests.{eq-eqb, ne_eqb, lt-ltb, le-ltb}
-use Rattle.octets.specs.Lists.{over}
 use Rattle.conversion.specs.Conversion.{each, converted, output_after}
 use Rattle.conversion.specs.Answers.{number_is, over-all}
 use Rattle.conversion.specs.declared.Converted.{Converted}

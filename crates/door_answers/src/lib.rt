@@ -5,22 +5,20 @@ ghost use Rattle.std.specs.Prelude.{◌≡◌, ◌+◌, ◌*◌, ◌≤◌, min,
 ghost use Rattle.printing.specs.Printing.{Written};
 ghost use Rattle.door_answers.specs.Answer.{fault, wrong_length, apart, wiegand_text, uuid_text, in_hexadecimal, of_record, of_uuid_record, verdict, heading, answer};
 
-// The number of a line that is refused, and the reason.
+// The number of a line that is refused, and the reason. The number is that of `Converted`, a C struct (a).
 fn fault(out: &mut [u8], at: usize, number: u8, is_record: bool) -> usize
     requires { at + 60 ≤ length out.old }
     ensures written { Written out.old at (fault number is_record) result out.new }
     ensures upper_bound { result ≤ at + 60 }
 {
-    if number == 25 {
-        return printing::put(out, at, b": 25, a bad character");
-    }
-    if number == 24 {
-        if is_record {
-            return printing::put(out, at, b": 24, wrong parity, or a bit set above the 26");
+    match number {
+        25 => printing::put(out, at, b": 25, a bad character"),
+        24 if is_record => {
+            printing::put(out, at, b": 24, wrong parity, or a bit set above the 26")
         }
-        return printing::put(out, at, b": 24, wrong parity");
+        24 => printing::put(out, at, b": 24, wrong parity"),
+        _ => printing::put(out, at, b": 23, wrong length"),
     }
-    printing::put(out, at, b": 23, wrong length")
 }
 
 // The same of a line that is none of the four, by its length.
@@ -45,9 +43,9 @@ fn apart(out: &mut [u8], at: usize, four: [u8; 4]) -> usize
     ensures upper_bound { result ≤ at + 60 }
 {
     let a = printing::put(out, at, b", facility ");
-    let b = printing::decimal(out, a, wiegand_parts::facility(four) as u64);
+    let b = printing::decimal(out, a, u64::from(wiegand_parts::facility(four)));
     let c = printing::put(out, b, b", number ");
-    printing::decimal(out, c, wiegand_parts::number(four) as u64)
+    printing::decimal(out, c, u64::from(wiegand_parts::number(four)))
 }
 
 // A Wiegand number as text.
@@ -146,19 +144,13 @@ fn verdict(out: &mut [u8], at: usize, start: &[u8], n: usize) -> usize
     ensures written { Written out.old at (verdict start.now n) result out.new }
     ensures upper_bound { result ≤ at + 100 }
 {
-    if n == 26 {
-        return wiegand_text(out, at, start);
+    match n {
+        26 => wiegand_text(out, at, start),
+        36 => uuid_text(out, at, start),
+        8 => wiegand_record(out, at, start),
+        32 => uuid_record(out, at, start),
+        _ => wrong_length(out, at, n),
     }
-    if n == 36 {
-        return uuid_text(out, at, start);
-    }
-    if n == 8 {
-        return wiegand_record(out, at, start);
-    }
-    if n == 32 {
-        return uuid_record(out, at, start);
-    }
-    wrong_length(out, at, n)
 }
 
 // The line as it is shown: whole, or its first bytes and two dots.

@@ -1,4 +1,4 @@
-//! Text written over an output from a place on: words, numbers, bytes of an input as they are shown. Each function answers the place behind what it
+//! Text written over an output from a place on: words, numbers, bytes of an input as they are shown. Each function returns the place after what it
 //! wrote.
 #![tactic(auto)]
 
@@ -37,20 +37,15 @@ pub fn decimal(out: &mut [u8], at: usize, n: u64) -> usize
 }
 
 // Whether a byte is shown as it is: the printable characters of ASCII, but for the space and the backslash.
+#[tactic(auto, unfolding(crate::specs::Printing::is_plain))]
 fn is_plain(b: u8) -> bool
     ensures { result ≡ is_plain b }
 {
-    if b <= b' ' {
-        return false;
-    }
-    if b == b'\\' {
-        return false;
-    }
-    b <= b'~'
+    b.is_ascii_graphic() && b != b'\\'
 }
 
 // A byte of the input. One that is not shown as it is is written \xNN, so that no byte of the input reaches a terminal as a command, what is
-// shown is one word, and it can be told what stood there.
+// shown is one word, and it tells which byte it was.
 fn byte(out: &mut [u8], at: usize, b: u8) -> usize
     requires { at + 4 ≤ length out.old }
     ensures written { Written out.old at (shown_byte b) result out.new }
@@ -71,10 +66,8 @@ pub fn shown(out: &mut [u8], at: usize, bytes: &[u8]) -> usize
     ensures upper_bound { result ≤ at + 4 * length bytes.now }
 {
     let mut to = at;
-    let mut i: usize = 0;
-    while i < bytes.len() {
-        to = byte(out, to, bytes[i]);
-        i += 1;
+    for b in bytes {
+        to = byte(out, to, *b);
     }
     to
 }

@@ -1,6 +1,0 @@
--- `take` is safe and ends: the measure is what is left of the bytes. Assumes nothing.
-use Rattle.std.proofs.Common.{length, ◌-◌}
-use Rattle.door.proofs.take.Given as goal
-
-abbrev pub decreases-loop-i : goal.decreases-loop-i
-decreases-loop-i g l = length l.bytes - l.i
