@@ -1,3 +1,4 @@
 pub mod Aes
 pub mod RoundTrip
 pub mod Rows
+pub mod Middle

@@ -12,11 +12,8 @@ pub fn encipher(table: &[u8; 256], w: &[[u8; 16]], s: [u8; 16]) -> [u8; 16]
 {
     let last = w.len() - 1;
     let mut t = rounds::add_round_key(rounds::columns_of(s), w[0]);
-    let mut i: usize = 1;
-    while i < last {
-        let n = rounds::round(table, t, w[i]);
-        t = n;
-        i += 1;
+    for key in &w[1..last] {
+        t = rounds::round(table, t, *key);
     }
     rounds::bytes_of(rounds::last_round(table, t, w[last]))
 }
@@ -28,11 +25,8 @@ pub fn decipher(table: &[u8; 256], w: &[[u8; 16]], s: [u8; 16]) -> [u8; 16]
 {
     let last = w.len() - 1;
     let mut t = rounds::add_round_key(rounds::columns_of(s), w[last]);
-    let mut i = last;
-    while 1 < i {
-        i -= 1;
-        let n = rounds::inv_round(table, t, w[i]);
-        t = n;
+    for key in w[1..last].iter().rev() {
+        t = rounds::inv_round(table, t, *key);
     }
     rounds::bytes_of(rounds::inv_last_round(table, t, w[0]))
 }

@@ -1,4 +1,4 @@
--- `aes::encipher` meets its contract: before turn i the state is that of i - 1 rounds. Assumes nothing.
+-- `aes::encipher` meets its contract: after so many round keys the state is that of so many rounds. Assumes nothing.
 use Prim.Native.Nat.{ℕ, suc, ◌+◌, ◌-◌}
 use mathlib.Core.Path.{◌≡◌, refl, ap, ◌∙◌}
 use mathlib.Core.List.{List, []}
@@ -6,44 +6,34 @@ use lib.ListN.{length, get_or}
 use native.Mathlib.Omega.{arith}
 use Rattle.rounds.specs.Columns.{state_of}
 use Rattle.rounds.specs.Cipher.{add_round_key, rounds, round, last_round, cipher}
-use Rattle.std.proofs.Common.{rules}
+use Rattle.aes.specs.Middle.{length_middle, middle-at}
 use Rattle.aes.proofs.encipher.Goals as goal
 
-pub loop-i-init : goal.loop-i-init
+pub loop-key-init : goal.loop-key-init
 unfolding rounds
-loop-i-init c = (search rules, search rules, refl)
+loop-key-init c = refl
 
-pub round-n-requires : goal.round-n-requires
-round-n-requires c = c.requires.0
-
-pub loop-i-preserved : goal.loop-i-preserved
+pub loop-key-preserved : goal.loop-key-preserved
 unfolding rounds
-loop-i-preserved c =
-    let l = c.loop-i in
+loop-key-preserved c =
+    let l = c.loop-key in
     let w = c.args.w.now in
     let z = state_of c.add_round_key-t.result in
-    let e : l.i ≡ suc (l.i - 1) = omega arith in
-    let f : suc (l.i - 1) ≡ l.i + 1 - 1 = omega arith in (
-      omega arith,
-      omega arith,
-      c.round-n.ensures
-          ∙ ap (λ (x : List ℕ). round x (get_or w l.i [])) l.invariant.2
-          ∙ ap (λ (n : ℕ). round (rounds w (l.i - 1) z) (get_or w n [])) e
-          ∙ ap (λ (n : ℕ). rounds w n z) f,
-    )
-
-pub last_round-requires : goal.last_round-requires
-last_round-requires c = c.requires.0
+    let e : suc l.key-index ≡ l.key-index + 1 = omega arith in
+    c.round-t.ensures
+    ∙ ap (round (state_of l.t)) (middle-at w c.requires.1 l.key-index [] c.loop-key-test.true)
+    ∙ ap (λ (x : List ℕ). round x (get_or w (suc l.key-index) [])) l.invariant
+    ∙ ap (λ (n : ℕ). rounds w n z) e
 
 pub returns : goal.returns
 unfolding cipher
 returns c =
     let w = c.args.w.now in
-    let l = c.loop-i in
-    let all : l.i ≡ length w - 1 = omega arith in
+    let l = c.loop-key in
+    let all : l.key-index ≡ length w - 1 - 1 = omega (arith, length_middle w c.requires.1) in
     let first : state_of c.add_round_key-t.result ≡ add_round_key c.args.s (get_or w 0 []) =
     c.add_round_key-t.ensures ∙ ap (λ (x : List ℕ). add_round_key x (get_or w 0 [])) c.columns_of.ensures in
     c.bytes_of.ensures
     ∙ c.last_round.ensures
     ∙ ap (λ (x : List ℕ). last_round x (get_or w (length w - 1) []))
-    (l.invariant.2 ∙ ap (λ (n : ℕ). rounds w (n - 1) (state_of c.add_round_key-t.result)) all ∙ ap (rounds w (length w - 1 - 1)) first)
+    (l.invariant ∙ ap (λ (n : ℕ). rounds w n (state_of c.add_round_key-t.result)) all ∙ ap (rounds w (length w - 1 - 1)) first)
