@@ -11,16 +11,11 @@ ghost use Rattle.key_expansion.specs.Schedule.{bytes_in, temp_at, place, Next, s
 use rounds::Columns;
 
 // Whether a key of n bytes is AES's.
+#[tactic(auto, unfolding(crate::specs::KeyLength::is_key_length))]
 pub fn is_key_length(n: usize) -> bool
     ensures { result ≡ is_key_length n }
 {
-    if n == 16 {
-        return true;
-    }
-    if n == 24 {
-        return true;
-    }
-    n == 32
+    matches!(n, 16 | 24 | 32)
 }
 
 // SUBWORD(ROTWORD(w)) ⊕ Rcon, by the table that is lent, where x is the first byte of Rcon.
@@ -163,7 +158,8 @@ fn turn(table: &[u8; 256], nk: usize, j: usize, older: Columns, newer: Columns, 
     }
 }
 
-// A key of four words is one row, and so is all that a turn looks back on.
+// A key of four words is one row, and so is all that a turn looks back on. Apart from `long_rows` for speed: where Nk is a constant,
+// the compiler leaves out the tests on it (docs/DECISIONS.md has the figures).
 fn short_rows(table: &[u8; 256], key: [u8; 16]) -> [[u8; 16]; 15]
     requires { table.now ≡ sbox_table }
     ensures { result ≡ fifteen 4 key }
@@ -172,13 +168,11 @@ fn short_rows(table: &[u8; 256], key: [u8; 16]) -> [[u8; 16]; 15]
     w[0] = key;
     let mut newer = rounds::columns_of(key);
     let mut x: u8 = 1;
-    let mut i: usize = 1;
-    while i < 11 {
+    for i in 1..11 {
         let t = turn(table, 4, 0, newer, newer, x);
         w[i] = rounds::bytes_of(t.row);
         newer = t.next;
         x = t.x;
-        i += 1;
     }
     w
 }
@@ -197,15 +191,13 @@ fn long_rows(table: &[u8; 256], nk: usize, key: &[u8]) -> [[u8; 16]; 15]
     let mut newer = rounds::columns_of(end);
     let mut x: u8 = 1;
     let mut j: usize = 0;
-    let mut i = first_row(nk);
-    while i < nk + 7 {
+    for i in first_row(nk)..nk + 7 {
         let t = turn(table, nk, j, older, newer, x);
         w[i] = rounds::bytes_of(t.row);
         older = newer;
         newer = t.next;
         j = t.j;
         x = t.x;
-        i += 1;
     }
     w
 }
