@@ -10,6 +10,10 @@ use lib.ListN.{length, take, replicate, length-replicate}
 use Rattle.octets.specs.Lists.{over}
 use Rattle.octets.specs.Writes.{take-over}
 use Rattle.key_expansion.specs.KeyLength.{is_key_length}
+use Rattle.std.proofs.Common.{lit<}
+use Rattle.refusals.specs.declared.Refusal.{Refusal}
+use Rattle.refusals.specs.declared.Refusal.TheVariants.{KeySetCount, KeySetRepeated, ShillHandle, ModeCount, ModeRepeated, Record, FreshCount, PadByte, Output, ListCount, ListRepeated, ListOutput, Blocks, NoneOpens, Payload, SealOutput, Response, WorkBuffer, Authentication, KeyLength, ValueLength, ConversionLength, Parity, BadCharacter, Interface}
+use Rattle.refusals.specs.Numbers.{number_of as refusal_number}
 use Rattle.plaid_types.specs.Keys.{bytes_of, of_length}
 use Rattle.plaid_types.specs.KeyLaws.{value-bytes}
 use Rattle.plaid_types.specs.declared.Value.{Value}
@@ -46,9 +50,43 @@ module _ (l : ℕ) (hash : Value) (n room : ℕ) where
         unfolding accept_number
         no-fault h = simp (one, eq-eqb hash.length l right, k, le-ltb room n h)
 
--- what is known behind `fault` where it finds none
-pub seen : {l : ℕ} {hash : Value} {n room f : ℕ} → f ≡ accept_number l hash n room true → f ≡ 0 → Seen l hash n room
-seen {l} {hash} {n} {room} e z = (number-none l hash n room true (sym e ∙ z)).0
+-- no refusal has the number 0
+pub some-number : (r : Refusal) → refusal_number r ≡ 0 → ⊥
+some-number r e = omega (arith, some-of r)
+  where
+    some-of : (x : Refusal) → 0 < refusal_number x
+    some-of x =
+        elim x as (λ (y : Refusal). 0 < refusal_number y) [
+          | KeySetCount ↦ lit< tt
+          | KeySetRepeated ↦ lit< tt
+          | ShillHandle ↦ lit< tt
+          | ModeCount ↦ lit< tt
+          | ModeRepeated ↦ lit< tt
+          | Record ↦ lit< tt
+          | FreshCount ↦ lit< tt
+          | PadByte ↦ lit< tt
+          | Output ↦ lit< tt
+          | ListCount ↦ lit< tt
+          | ListRepeated ↦ lit< tt
+          | ListOutput ↦ lit< tt
+          | Blocks ↦ lit< tt
+          | NoneOpens ↦ lit< tt
+          | Payload ↦ lit< tt
+          | SealOutput ↦ lit< tt
+          | Response ↦ lit< tt
+          | WorkBuffer ↦ lit< tt
+          | Authentication ↦ lit< tt
+          | KeyLength ↦ lit< tt
+          | ValueLength ↦ lit< tt
+          | ConversionLength ↦ lit< tt
+          | Parity ↦ lit< tt
+          | BadCharacter ↦ lit< tt
+          | Interface ↦ lit< tt
+        ]
+
+-- what is known after `fault` if it finds none
+pub seen : {l : ℕ} {hash : Value} {n room : ℕ} → 0 ≡ accept_number l hash n room true → Seen l hash n room
+seen {l} {hash} {n} {room} e = (number-none l hash n room true (sym e)).0
 
 -- where it finds one, that is the number of any response, and not 20
 fault-by : (s t u v ok : Bool) → (◌≡◌ {A = ℕ} (cond s 21 (cond t 22 (cond u 18 (cond v 19 0)))) 0 → ⊥) →
@@ -65,23 +103,37 @@ fault-is : (l : ℕ) (hash : Value) (n room : ℕ) (ok : Bool) → (accept_numbe
 unfolding accept_number
 fault-is l hash n room ok z = fault-by (not (is_key_length l)) (not (of_length l hash)) (not (known_length n)) (ltb room n) ok z
 
-module _ (l : ℕ) (hash : Value) (div : List ℕ) (len : ℕ) (response work : List ℕ) {f : ℕ} (ef : f ≡ accept_number l hash (length response) (length work) true) where
-  -- what is handed back, and the work buffer
-  abbrev Answer : Accepted → List ℕ → Type 0
-  Answer r e = (r ≡ accepted_of l hash div len response (length work)) × (e ≡ work_after l hash div len response work)
+module _ (l : ℕ) (hash : Value) (div : List ℕ) (len : ℕ) (response work : List ℕ) where
+  -- the number, and the work buffer
+  abbrev Answer : ℕ → List ℕ → Type 0
+  Answer k e = (k ≡ number_of l hash div len response (length work)) × (e ≡ work_after l hash div len response work)
 
-  pub not-deciphered : (f ≡ 0 → ⊥) → Answer (record { number = f; length = 0 }) work
-  unfolding accepted_of work_after
-  not-deciphered z =
+  pub not-deciphered : {f : ℕ} → f ≡ accept_number l hash (length response) (length work) true → (f ≡ 0 → ⊥) → Answer f work
+  unfolding work_after
+  not-deciphered {f} ef z =
       let k = fault-is l hash (length response) (length work) (acceptable (deciphered_text (bytes_of hash) response) div len) (λ q. z (ef ∙ q)) in
       let n : number_of l hash div len response (length work) ≡ f = k.0 ∙ sym ef in
       let a = ne_eqb f 0 z in
       let b = ne_eqb f 20 (λ q. k.1 (sym ef ∙ q)) in
-      (simp (n, a), simp (n, a, b))
+      (sym n, simp (n, a, b))
 
-  module _ (z : f ≡ 0) where
+  -- what is returned
+  pub declined : (r : Refusal) {k : ℕ} → refusal_number r ≡ number_of l hash div len response (length work) → k ≡ refusal_number r →
+      ◌≡◌ {A = Accepted} (record { number = k; length = 0 }) (accepted_of l hash div len response (length work))
+  unfolding accepted_of
+  declined r {k} e q =
+      let n : number_of l hash div len response (length work) ≡ k = sym (q ∙ e) in
+      let a = ne_eqb k 0 (λ z. some-number r (sym q ∙ z)) in
+      simp (n, a)
+
+  pub returned : {k : ℕ} → 0 ≡ number_of l hash div len response (length work) → k ≡ len →
+      ◌≡◌ {A = Accepted} (record { number = 0; length = k }) (accepted_of l hash div len response (length work))
+  unfolding accepted_of
+  returned {k} e q = let n : number_of l hash div len response (length work) ≡ 0 = sym e in simp (n, q)
+
+  module _ (ef : 0 ≡ accept_number l hash (length response) (length work) true) where
     gone : Seen l hash (length response) (length work)
-    gone = seen ef z
+    gone = seen ef
 
     key : List ℕ
     key = bytes_of hash
@@ -108,18 +160,18 @@ module _ (l : ℕ) (hash : Value) (div : List ℕ) (len : ℕ) (response work : 
           number-seen l hash (length response) (length work) (acceptable s div len) gone
           ∙ ap (λ (b : Bool). cond b 0 20) (sym (has-acceptable s div len (judged-is q j) p))
 
-      pub text-refused : {e' : List ℕ} → a ≡ false → e' ≡ over e 0 (replicate (length response) 0) → Answer (record { number = 20; length = 0 }) e'
-      unfolding accepted_of work_after key
+      pub text-refused : {e' : List ℕ} → a ≡ false → e' ≡ over e 0 (replicate (length response) 0) → Answer 20 e'
+      unfolding work_after key
       text-refused {e'} t w =
           let s : List ℕ = deciphered_text key response in
           let n : number_of l hash div len response (length work) ≡ 20 = number_is ∙ ap (λ (b : Bool). cond b 0 20) t in
           let o : List ℕ = replicate (length response) 0 in (
-            simp n,
+            sym n,
             simp n (w ∙ ap (λ (x : List ℕ). over x 0 o) q ∙ over-again work s o (long ∙ sym (length-replicate {A = ℕ} (length response) 0))),
           )
 
-      pub text-accepted : a ≡ true → Answer (record { number = 0; length = len }) e
-      unfolding accepted_of work_after key
+      pub text-accepted : a ≡ true → Answer 0 e
+      unfolding work_after key
       text-accepted t =
           let n : number_of l hash div len response (length work) ≡ 0 = number_is ∙ ap (λ (b : Bool). cond b 0 20) t in
-          (simp n, simp n q)
+          (sym n, simp n q)

@@ -1,9 +1,10 @@
 //! The reader's Accept: a card's answer to a final command.
 #![tactic(auto)]
 
-ghost use Rattle.std.specs.Prelude.{◌≡◌, true, cond, ◌-◌, ◌≤◌, length, replicate};
+ghost use Rattle.std.specs.Prelude.{◌≡◌, true, cond, ◌-◌, ◌≤◌, length, replicate, IfOk};
 ghost use Rattle.octets.specs.Lists.{over};
 ghost use Rattle.key_expansion.specs.KeyLength.{is_key_length};
+ghost use Rattle.refusals.specs.Numbers.{number_told};
 ghost use Rattle.reader_accept.specs.Accept.{
   deciphered_text,
   right_body,
@@ -12,12 +13,14 @@ ghost use Rattle.reader_accept.specs.Accept.{
   has_record,
   known_length,
   accept_number,
+  number_of,
   accepted_of,
   work_after,
   record_part,
 };
 
-use plaid_types::{Answer, Value};
+use plaid_types::Value;
+use refusals::Refusal;
 
 // The number of the decline, and 0; or 0, and how many bytes of the work buffer are the record.
 #[repr(C)]
@@ -30,38 +33,26 @@ pub struct Accepted {
 fn known_length(n: usize) -> bool
     ensures { result ≡ known_length n }
 {
-    if n == Answer::FINAL_LEAST {
-        return true;
-    }
-    if n == 48 {
-        return true;
-    }
-    if n == 64 {
-        return true;
-    }
-    if n == 80 {
-        return true;
-    }
-    n == Answer::FINAL_MOST
+    matches!(n, 32 | 48 | 64 | 80 | 96)
 }
 
-// The first fault that shows before a byte is deciphered, of a response of n bytes and a work buffer of so many; or 0.
-fn fault(l: usize, keys_hash: Value, n: usize, room: usize) -> u8
-    ensures { result ≡ accept_number l keys_hash n room true }
+// The first fault that shows before a byte is deciphered, of a response of n bytes and a work buffer of so many.
+fn fault(l: usize, keys_hash: Value, n: usize, room: usize) -> Result<(), Refusal>
+    ensures { number_told result ≡ accept_number l keys_hash n room true }
 {
     if !key_expansion::is_key_length(l) {
-        return 21;
+        return Err(Refusal::KeyLength);
     }
     if keys_hash.length as usize != l {
-        return 22;
+        return Err(Refusal::ValueLength);
     }
     if !known_length(n) {
-        return 18;
+        return Err(Refusal::Response);
     }
     if room < n {
-        return 19;
+        return Err(Refusal::WorkBuffer);
     }
-    0
+    Ok(())
 }
 
 // The response deciphered, in the first bytes of the work buffer.
@@ -107,19 +98,41 @@ fn judged(s: &[u8], div: [u8; 16]) -> usize
 fn has_record(len: usize, body: usize) -> bool
     ensures { result ≡ has_record len body }
 {
-    if len == 0 {
-        return false;
-    }
-    len <= body
+    octets::both(1 <= len, len <= body)
 }
 
 // Zeros over the first n bytes.
 fn clear(work: &mut [u8], n: usize)
-    requires { (n ≤ 96) × (n ≤ length work.old) }
+    requires { n ≤ length work.old }
     ensures { work.new ≡ over work.old 0 (replicate n 0) }
 {
-    let zeros = [0u8; Answer::FINAL_MOST];
-    octets::copy_at(work, 0, &zeros[..n]);
+    work[..n].fill(0);
+}
+
+// How many bytes of the work buffer are the record.
+fn accepted_length(
+    l: usize,
+    keys_hash: Value,
+    div_data: [u8; 16],
+    record_length: usize,
+    response: &[u8],
+    work: &mut [u8],
+) -> Result<usize, Refusal>
+    ensures told { number_told result ≡ number_of l keys_hash div_data record_length response.now (length work.old) }
+    ensures len { IfOk result (λ n. n ≡ record_length) }
+    ensures bytes { work.new ≡ work_after l keys_hash div_data record_length response.now work.old }
+{
+    let n = response.len();
+    fault(l, keys_hash, n, work.len())?;
+    let bytes = keys_hash.bytes;
+    let hash = &bytes[..l];
+    decipher_into(hash, response, work);
+    let body = judged(&work[..n], div_data);
+    if !has_record(record_length, body) {
+        clear(work, n);
+        return Err(Refusal::Authentication);
+    }
+    Ok(record_length)
 }
 
 pub fn accept_in(
@@ -133,28 +146,15 @@ pub fn accept_in(
     ensures told { result ≡ accepted_of l keys_hash div_data record_length response.now (length work.old) }
     ensures bytes { work.new ≡ work_after l keys_hash div_data record_length response.now work.old }
 {
-    let n = response.len();
-    let number = fault(l, keys_hash, n, work.len());
-    if number != 0 {
-        return Accepted {
-            number: number,
+    match accepted_length(l, keys_hash, div_data, record_length, response, work) {
+        Ok(n) => Accepted {
+            number: 0,
+            length: n,
+        },
+        Err(r) => Accepted {
+            number: r.number(),
             length: 0,
-        };
-    }
-    let bytes = keys_hash.bytes;
-    let hash = &bytes[..l];
-    decipher_into(hash, response, work);
-    let body = judged(&work[..n], div_data);
-    if !has_record(record_length, body) {
-        clear(work, n);
-        return Accepted {
-            number: 20,
-            length: 0,
-        };
-    }
-    Accepted {
-        number: 0,
-        length: record_length,
+        },
     }
 }
 
@@ -163,9 +163,6 @@ pub fn accept_in(
 pub fn record_of(work: &[u8], a: Accepted) -> &[u8]
     ensures { result.now ≡ record_part work.now a }
 {
-    let n = a.length;
-    if n < work.len() {
-        return &work[..n];
-    }
-    work
+    let n = a.length.min(work.len());
+    &work[..n]
 }
