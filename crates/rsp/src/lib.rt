@@ -3,169 +3,94 @@
 // Reads NIST's response files (CAVS, `.rsp`). Such a file is lines that end in LF or in CR and LF: comments (#), sections
 // ([ENCRYPT]) and fields (KEY = 00ff..). A record is a run of fields that an empty line ends.
 //
-// A file is lent whole, as a slice, with a place in it. Every function takes every place, and none reads past the end.
-ghost use Rattle.std.specs.Prelude.{◌+◌, ◌≤◌, ◌<◌, ◌≡◌, true, length};
+// A file is lent whole, as a slice. A place in it is the rest of the file from there on.
+ghost use Rattle.std.specs.Prelude.{◌<◌, length, IfSome};
 
 mod report;
 
-pub use report::{load, more, say, say_bytes, say_line, say_number};
+pub use report::{Ran, load, say_bytes};
 
-// The answer where there is no such field, or where it cannot be read.
-pub const NONE: usize = 0xffff_ffff_ffff_ffff;
-
-// The byte at place i, or 0 past the end.
-fn at(s: &[u8], i: usize) -> u8 {
-    if i < s.len() { s[i] } else { 0 }
+// Whether a line ends here: CR or LF comes next, or the file ends.
+pub fn line_ends(rest: &[u8]) -> bool {
+    matches!(rest.first(), None | Some(b'\r' | b'\n'))
 }
 
-// Whether a line ends at place i: there stands CR or LF, or the file ends.
-pub fn line_ends(s: &[u8], i: usize) -> bool {
-    if s.len() <= i {
-        return true;
+// The line, without its end.
+pub fn line(rest: &[u8]) -> &[u8] {
+    match rest.iter().position(|&b| b == b'\r' || b == b'\n') {
+        Some(n) => &rest[..n],
+        None => rest,
     }
-    let b = s[i];
-    b == 10 || b == 13
 }
 
-// Where the line of place i ends.
-fn line_end(s: &[u8], i: usize) -> usize {
-    let mut e = i;
-    while e < s.len() {
-        if line_ends(s, e) {
-            return e;
-        }
-        e += 1;
-    }
-    e
-}
-
-// Where the line after that of place i starts, or the file's length where no line comes after it.
-pub fn next_line(s: &[u8], i: usize) -> usize
-    ensures upper_bound { result ≤ length s.now }
-    ensures lower_bound { i < length s.now → i < result }
+// The rest of the file after the line.
+pub fn next_line(rest: &[u8]) -> &[u8]
+    ensures { 0 < length rest.now → length result.now < length rest.now }
 {
-    let mut e = i;
-    while e < s.len() {
-        if s[e] == 10 {
-            return e + 1;
-        }
-        e += 1;
+    match rest.iter().position(|&b| b == b'\n') {
+        Some(n) => &rest[n + 1..],
+        None => &rest[rest.len()..],
     }
-    s.len()
 }
 
-// Whether the file has `text` at place i.
-pub fn starts(s: &[u8], i: usize, text: &[u8]) -> bool
-    ensures { result ≡ true → i + length text.now ≤ length s.now }
+// The file from the value on of a field of the record that begins here. `name` is the field's, with " = " at its end.
+pub fn field<'a>(record: &'a [u8], name: &[u8]) -> Option<&'a [u8]> {
+    let mut rest = record;
+    while !rest.is_empty() {
+        if let Some(value) = rest.strip_prefix(name) {
+            return Some(value);
+        }
+        if line_ends(rest) {
+            return None;
+        }
+        rest = next_line(rest);
+    }
+    None
+}
+
+// The value of a hexadecimal digit.
+fn digit(b: u8) -> Option<u8>
+    ensures { IfSome result (λ d. d < 16) }
 {
-    if s.len() < i {
-        return false;
+    match b {
+        b'0'..=b'9' => Some(b - b'0'),
+        b'a'..=b'f' => Some(b - b'a' + 10),
+        _ => None,
     }
-    if s.len() - i < text.len() {
-        return false;
-    }
-    let mut k = 0;
-    while k < text.len() {
-        if s[i + k] != text[k] {
-            return false;
-        }
-        k += 1;
-    }
-    true
-}
-
-// The place of a field's value in the record at place i, or NONE. `name` is the field's, with " = " at its end.
-pub fn field(s: &[u8], i: usize, name: &[u8]) -> usize {
-    let mut j = i;
-    while j < s.len() {
-        if starts(s, j, name) {
-            return j + name.len();
-        }
-        if line_ends(s, j) {
-            return NONE;
-        }
-        j = next_line(s, j);
-    }
-    NONE
-}
-
-// The value of a hexadecimal digit, or 16 where `b` is none.
-fn digit(b: u8) -> usize
-    ensures { result ≤ 16 }
-{
-    if b < b'0' {
-        return 16;
-    }
-    if b <= b'9' {
-        return (b - b'0') as usize;
-    }
-    if b < b'a' {
-        return 16;
-    }
-    if b <= b'f' {
-        return (b - b'a') as usize + 10;
-    }
-    16
-}
-
-// Where the hexadecimal digits that start at place i end.
-fn digits_end(s: &[u8], i: usize) -> usize
-    ensures { i ≤ result }
-{
-    let mut e = i;
-    while e < s.len() {
-        if digit(s[e]) == 16 {
-            return e;
-        }
-        e += 1;
-    }
-    e
 }
 
 // The byte of two hexadecimal digits.
-fn pair(high: u8, low: u8) -> u8 {
-    (digit(high) % 16 * 16 + digit(low) % 16) as u8
+fn pair(high: u8, low: u8) -> Option<u8> {
+    Some(16 * digit(high)? + digit(low)?)
 }
 
-// Puts the bytes whose digits stand at place i at the start of `out`, and answers how many they are. NONE where there is no
+// Puts the bytes that a value's hexadecimal digits say at the start of `out`, and returns how many they are. None if there is no
 // digit, an odd number of them, something else before the line ends, or more than `out` holds.
-pub fn hex(s: &[u8], i: usize, out: &mut [u8]) -> usize {
-    let e = digits_end(s, i);
-    let n = (e - i) / 2;
-    if n == 0 || 2 * n != e - i || !line_ends(s, e) {
-        return NONE;
+pub fn hex(value: &[u8], out: &mut [u8]) -> Option<usize> {
+    let digits = line(value);
+    let n = digits.len() / 2;
+    if n == 0 || digits.len() % 2 != 0 || out.len() < n {
+        return None;
     }
-    if out.len() < n {
-        return NONE;
+    for (to, two) in out.iter_mut().zip(digits.chunks_exact(2)) {
+        *to = pair(two[0], two[1])?;
     }
-    let mut k = 0;
-    while k < n {
-        let j = i + 2 * k;
-        out[k] = pair(at(s, j), at(s, j + 1));
-        k += 1;
-    }
-    n
+    Some(n)
 }
 
-// The decimal number at place i, or NONE where there is no digit, more than twelve, or something else before the line ends.
-pub fn decimal(s: &[u8], i: usize) -> usize {
+// A value's decimal number. None if there is no digit, more than twelve, or something else before the line ends.
+pub fn decimal(value: &[u8]) -> Option<usize> {
+    let digits = line(value);
+    if digits.is_empty() {
+        return None;
+    }
     let mut n: usize = 0;
-    let mut e = i;
-    while e < s.len() {
-        let d = digit(s[e]);
-        if 9 < d {
-            return whole(s, i, e, n);
-        }
+    for &b in digits {
+        let d = digit(b).filter(|d| *d < 10)?;
         if 99_999_999_999 < n {
-            return NONE;
+            return None;
         }
-        n = 10 * n + d;
-        e += 1;
+        n = 10 * n + usize::from(d);
     }
-    whole(s, i, e, n)
-}
-
-// `n`, if its digits are all that the line has from place i on: there is one, and the line ends at e.
-fn whole(s: &[u8], i: usize, e: usize, n: usize) -> usize {
-    if i < e && line_ends(s, e) { n } else { NONE }
+    Some(n)
 }

@@ -1,18 +1,47 @@
-// Reading a file whole, and writing what a run found to standard output.
-use crate::{NONE, line_end};
+// Reading a file whole, what a record gave, and bytes as they are written.
 use std::io::Read;
 use std::rt::Files;
-use std::{fs, io, str};
+use std::{fmt, fs, io, str};
 
-// Reads the file `name` into `buf` and answers its length. NONE where it cannot be opened or read, or where `buf` is not longer than it.
-pub fn load(rt: &impl Files, name: &[u8], buf: &mut [u8]) -> usize {
-    match read_file(rt, name, buf) {
-        Ok(n) if n < buf.len() => n,
-        _ => NONE,
+// What one record gave.
+#[derive(Clone, Copy, Debug, PartialEq, Eq)]
+pub enum Ran {
+    Agrees,
+    Differs,
+    Unread,
+}
+
+impl Ran {
+    // What was made beside what is wanted.
+    pub fn compared(made: &[u8], wanted: &[u8]) -> Ran {
+        if made == wanted {
+            Ran::Agrees
+        } else {
+            Ran::Differs
+        }
     }
 }
 
-// Reads the file `name` until it ends or `buf` is full, and answers how many bytes it put at the start of `buf`.
+impl fmt::Display for Ran {
+    fn fmt<W: fmt::Write>(&self, f: &mut fmt::Formatter<W>) -> fmt::Result {
+        f.write_str(match self {
+            Ran::Agrees => "agrees",
+            Ran::Differs => "differs",
+            Ran::Unread => "unreadable",
+        })
+    }
+}
+
+// Reads the file `name` into `buf` and returns its length. None if it cannot be opened or read, or if `buf` is not longer than it.
+pub fn load(rt: &impl Files, name: &[u8], buf: &mut [u8]) -> Option<usize> {
+    match read_file(rt, name, buf) {
+        Ok(n) if n < buf.len() => Some(n),
+        _ => None,
+    }
+}
+
+// Reads the file `name` until it ends or `buf` is full, and returns how many bytes it put at the start of `buf`. `read_to_end` would
+// need the heap.
 fn read_file(rt: &impl Files, name: &[u8], buf: &mut [u8]) -> io::Result<usize> {
     let Ok(path) = str::from_utf8(name) else {
         return Err(io::Error::from(io::ErrorKind::InvalidFilename));
@@ -29,32 +58,10 @@ fn read_file(rt: &impl Files, name: &[u8], buf: &mut [u8]) -> io::Result<usize> 
     Ok(done)
 }
 
-pub fn say(rt: &impl Print, text: &[u8]) -> io::Result<()> {
-    rt.write_all(text)
-}
-
-pub fn say_number(rt: &impl Print, n: u64) -> io::Result<()> {
-    rt.print(n)
-}
-
 // Writes the bytes in hexadecimal.
 pub fn say_bytes(rt: &impl Print, bytes: &[u8]) -> io::Result<()> {
     for b in bytes {
         print!(rt; "{b:02x}")?;
     }
     Ok(())
-}
-
-// Writes what the line has from place i on, without its end.
-pub fn say_line(rt: &impl Print, s: &[u8], i: usize) -> io::Result<()> {
-    let e = line_end(s, i);
-    if i < e && e <= s.len() {
-        say(rt, &s[i..e])?;
-    }
-    Ok(())
-}
-
-// The next number of a count, which stops at the largest.
-pub fn more(n: u64) -> u64 {
-    if n < 0xffff_ffff_ffff_ffff { n + 1 } else { n }
 }

@@ -1,8 +1,6 @@
--- `rsp::field` is safe and ends. That the value starts within the file is what `starts` ensures where it answers true; that the next line
--- starts further on is what `next_line` ensures. Assumes nothing.
-use Prim.Native.Nat.{◌-◌}
-use lib.ListN.{length}
+-- `rsp::field` ends: the next line is shorter, which `next_line` ensures. Assumes nothing.
+use Rattle.std.proofs.Common.{length}
 use Rattle.rsp.proofs.field.Given as goal
 
-abbrev pub decreases-loop-j : goal.decreases-loop-j
-decreases-loop-j l = length l.s - l.j
+abbrev pub decreases-loop-rest : goal.decreases-loop-rest
+decreases-loop-rest l = length l.rest
