@@ -5,27 +5,20 @@
 // says is one that cannot be read.
 ghost use Rattle.std.specs.Prelude.{◌≡◌, ◌≤◌, length};
 
-use aes_runs::{Mode, Ran, Tally};
+use aes_runs::{Direction, Mode, Ran, Tally};
 use std::io;
 use std::rt::Files;
 
-// The sections of a file. A record that stands in neither cannot be run.
-const NO_SECTION: u8 = 0;
-
-const ENCRYPT: u8 = 1;
-
-const DECRYPT: u8 = 2;
-
-// The section that the line at place i starts, or `last` where it starts none.
-fn section_at(s: &[u8], i: usize, last: u8) -> u8 {
-    if rsp::starts(s, i, b"[ENCRYPT]") {
-        return ENCRYPT;
+// The section that this line starts, or `last` if it starts none. A record of no section cannot be run.
+fn section_at(line: &[u8], last: Option<Direction>) -> Option<Direction> {
+    if line.starts_with(b"[ENCRYPT]") {
+        return Some(Direction::Encipher);
     }
-    if rsp::starts(s, i, b"[DECRYPT]") {
-        return DECRYPT;
+    if line.starts_with(b"[DECRYPT]") {
+        return Some(Direction::Decipher);
     }
-    if rsp::starts(s, i, b"[") {
-        return NO_SECTION;
+    if line.starts_with(b"[") {
+        return None;
     }
     last
 }
@@ -37,105 +30,81 @@ struct Kind {
     key_length: usize,
 }
 
-// Puts the bytes of a field of the record at place i at the start of `out`, and answers how many they are.
-fn bytes_of(s: &[u8], i: usize, name: &[u8], out: &mut [u8]) -> usize {
-    rsp::hex(s, rsp::field(s, i, name), out)
-}
-
-// Whether a record can be run whose key has k bytes, its IV v, and its texts n and m: they are whole blocks.
-fn has_lengths(kind: Kind, k: usize, v: usize, n: usize, m: usize) -> bool {
-    k == kind.key_length && n == m && n % 16 == 0 && kind.is_chained == (v == 16)
-}
-
-// Runs the record at place i, whose texts have at most ten blocks.
-fn record(s: &[u8], i: usize, kind: Kind, section: u8) -> Ran {
+// Runs the record that begins here, whose texts have at most ten blocks. None if it cannot be run: its key has another length than its
+// file's name says, its texts are not equally many whole blocks, or it has an IV and is not chained, or the other way round.
+fn run_record(record: &[u8], kind: Kind, section: Option<Direction>) -> Option<Ran> {
     let mut key = [0u8; 32];
     let mut start = [0u8; 16];
     let mut plain = [0u8; 160];
     let mut cipher = [0u8; 160];
-    let k = bytes_of(s, i, b"KEY = ", &mut key);
-    let v = bytes_of(s, i, b"IV = ", &mut start);
-    let n = bytes_of(s, i, b"PLAINTEXT = ", &mut plain);
-    let m = bytes_of(s, i, b"CIPHERTEXT = ", &mut cipher);
-    if !has_lengths(kind, k, v, n, m) {
-        return Ran::Unread;
+    let k = rsp::bytes(record, b"KEY = ", &mut key)?;
+    let v = rsp::bytes(record, b"IV = ", &mut start);
+    let n = rsp::bytes(record, b"PLAINTEXT = ", &mut plain)?;
+    let m = rsp::bytes(record, b"CIPHERTEXT = ", &mut cipher)?;
+    if k != kind.key_length || n != m || n % 16 != 0 || kind.is_chained != (v == Some(16)) {
+        return None;
     }
     let mode = Mode {
         is_chained: kind.is_chained,
-        is_inverse: section == DECRYPT,
+        direction: section?,
     };
-    if section == ENCRYPT {
-        return aes_runs::run_text(mode, key, k, start, &mut plain, &cipher, n);
+    match mode.direction {
+        Direction::Encipher => Some(aes_runs::run_text(mode, key, k, start, &mut plain, &cipher, n)),
+        Direction::Decipher => Some(aes_runs::run_text(mode, key, k, start, &mut cipher, &plain, n)),
     }
-    if section == DECRYPT {
-        return aes_runs::run_text(mode, key, k, start, &mut cipher, &plain, n);
-    }
-    Ran::Unread
 }
 
-// Says of the record at place i that it did not agree, by its section and its first line.
+// Says of a record that it did not agree, by its section and its first line.
 fn complain(
     rt: &impl Print,
     name: &[u8],
-    s: &[u8],
-    i: usize,
-    section: u8,
+    record: &[u8],
+    section: Option<Direction>,
     ran: Ran,
 ) -> io::Result<()> {
-    if let Ran::Agrees = ran {
+    if ran == Ran::Agrees {
         return Ok(());
     }
-    rsp::say(rt, name)?;
-    if section == ENCRYPT {
-        rsp::say(rt, b" [ENCRYPT] ")?;
-    } else if section == DECRYPT {
-        rsp::say(rt, b" [DECRYPT] ")?;
-    } else {
-        rsp::say(rt, b" ")?;
-    }
-    rsp::say_line(rt, s, i)?;
-    ran.say(rt)
+    rt.write_all(name)?;
+    rt.print(match section {
+        Some(Direction::Encipher) => " [ENCRYPT] ",
+        Some(Direction::Decipher) => " [DECRYPT] ",
+        None => " ",
+    })?;
+    rt.write_all(rsp::line(record))?;
+    println!(rt; ": {ran}")
 }
 
-fn records(rt: &impl Print, name: &[u8], s: &[u8], kind: Kind) -> io::Result<Tally> {
-    let mut tally = Tally::none();
-    let mut section = NO_SECTION;
-    let mut i = 0;
-    while i < s.len() {
-        section = section_at(s, i, section);
-        if rsp::starts(s, i, b"COUNT = ") {
-            let ran = record(s, i, kind, section);
-            complain(rt, name, s, i, section, ran)?;
-            tally = tally.with(section == DECRYPT, ran);
+fn records(rt: &impl Print, name: &[u8], file: &[u8], kind: Kind) -> io::Result<Tally> {
+    let mut tally = Tally::default();
+    let mut section = None;
+    let mut rest = file;
+    while !rest.is_empty() {
+        section = section_at(rest, section);
+        if rest.starts_with(b"COUNT = ") {
+            let ran = run_record(rest, kind, section).unwrap_or(Ran::Unread);
+            complain(rt, name, rest, section, ran)?;
+            tally = tally.with(section.unwrap_or(Direction::Encipher), ran);
         }
-        i = rsp::next_line(s, i);
+        rest = rsp::next_line(rest);
     }
     Ok(tally)
 }
 
-// Runs the records of the first n bytes of `buf`.
-fn run_part(rt: &impl Print, name: &[u8], buf: &[u8], n: usize, kind: Kind) -> io::Result<Tally> {
-    if buf.len() < n {
-        rsp::say(rt, name)?;
-        rsp::say(rt, b": cannot be read\n")?;
-        return Ok(Tally::none().with(false, Ran::Unread));
-    }
-    records(rt, name, &buf[0..n], kind)
-}
-
-// Room for a file. That it is so long is all that its callers know of it, so that no proof counts its bytes.
-fn room() -> [u8; 131072]
-    ensures { 131072 ≡ length result }
-{
-    [0; 131072]
-}
-
 // Runs a file of at most 131,071 bytes.
 fn run(rt: &(impl Files + Print), name: &[u8], kind: Kind) -> io::Result<Tally> {
-    let mut buf = room();
+    let mut buf = [0u8; 131072];
     let n = rsp::load(rt, name, &mut buf);
-    let tally = run_part(rt, name, &buf, n, kind)?;
-    tally.say(rt, name)?;
+    let tally = match n.and_then(|n| buf.get(..n)) {
+        Some(file) => records(rt, name, file, kind)?,
+        None => {
+            rt.write_all(name)?;
+            rt.println(": cannot be read")?;
+            Tally::default().with(Direction::Encipher, Ran::Unread)
+        }
+    };
+    rt.write_all(name)?;
+    println!(rt; ": {tally}")?;
     Ok(tally)
 }
 
@@ -168,7 +137,7 @@ fn run_named(
         &name[..e],
         Kind {
             is_chained: mode == b"CBC".as_slice(),
-            key_length: rsp::decimal(bits, 0) / 8,
+            key_length: rsp::decimal(bits).unwrap_or(0) / 8,
         },
     )
 }
@@ -193,5 +162,5 @@ fn lengths(rt: &(impl Files + Print), mode: &[u8]) -> io::Result<Tally> {
 fn main(rt: HostRuntime) -> io::Result<()> {
     let ecb = lengths(&rt, b"ECB")?;
     let cbc = lengths(&rt, b"CBC")?;
-    ecb.and(cbc).say(&rt, b"total")
+    println!(rt; "total: {}", ecb.and(cbc))
 }

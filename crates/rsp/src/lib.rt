@@ -4,7 +4,7 @@
 // ([ENCRYPT]) and fields (KEY = 00ff..). A record is a run of fields that an empty line ends.
 //
 // A file is lent whole, as a slice. A place in it is the rest of the file from there on.
-ghost use Rattle.std.specs.Prelude.{◌<◌, length, IfSome};
+ghost use Rattle.std.specs.Prelude.{◌<◌, ◌≤◌, length, IfSome};
 
 mod report;
 
@@ -16,7 +16,9 @@ pub fn line_ends(rest: &[u8]) -> bool {
 }
 
 // The line, without its end.
-pub fn line(rest: &[u8]) -> &[u8] {
+pub fn line(rest: &[u8]) -> &[u8]
+    ensures { length result.now ≤ length rest.now }
+{
     match rest.iter().position(|&b| b == b'\r' || b == b'\n') {
         Some(n) => &rest[..n],
         None => rest,
@@ -66,7 +68,9 @@ fn pair(high: u8, low: u8) -> Option<u8> {
 
 // Puts the bytes that a value's hexadecimal digits say at the start of `out`, and returns how many they are. None if there is no
 // digit, an odd number of them, something else before the line ends, or more than `out` holds.
-pub fn hex(value: &[u8], out: &mut [u8]) -> Option<usize> {
+pub fn hex(value: &[u8], out: &mut [u8]) -> Option<usize>
+    ensures { IfSome result (λ n. n ≤ length out.new) }
+{
     let digits = line(value);
     let n = digits.len() / 2;
     if n == 0 || digits.len() % 2 != 0 || out.len() < n {
@@ -76,6 +80,13 @@ pub fn hex(value: &[u8], out: &mut [u8]) -> Option<usize> {
         *to = pair(two[0], two[1])?;
     }
     Some(n)
+}
+
+// Puts the bytes of a field of the record that begins here at the start of `out`, and returns how many they are.
+pub fn bytes(record: &[u8], name: &[u8], out: &mut [u8]) -> Option<usize>
+    ensures { IfSome result (λ n. n ≤ length out.new) }
+{
+    hex(field(record, name)?, out)
 }
 
 // A value's decimal number. None if there is no digit, more than twelve, or something else before the line ends.

@@ -1,4 +1,6 @@
 // Reading a file whole, what a record gave, and bytes as they are written.
+ghost use Rattle.std.specs.Prelude.{◌≡◌, ◌≢◌};
+
 use std::io::Read;
 use std::rt::Files;
 use std::{fmt, fs, io, str};
@@ -13,7 +15,10 @@ pub enum Ran {
 
 impl Ran {
     // What was made beside what is wanted.
-    pub fn compared(made: &[u8], wanted: &[u8]) -> Ran {
+    pub fn compared(made: &[u8], wanted: &[u8]) -> Ran
+        ensures same { result ≡ Ran.Agrees → made.now ≡ wanted.now }
+        ensures other { result ≡ Ran.Differs → made.now ≢ wanted.now }
+    {
         if made == wanted {
             Ran::Agrees
         } else {
