@@ -2,9 +2,7 @@
 
 // Runs the worked examples of FIPS 197: appendices A.1 to A.3 (the expansion of a key of 128, 192 and 256 bits), B (a cipher example) and C.1 to
 // C.3 (AES-128, AES-192, AES-256).
-ghost use Rattle.std.specs.Prelude.{◌≤◌, length};
-
-use aes_runs::{Mode, Ran, Tally};
+use aes_runs::{Direction, Mode, Ran, Tally};
 use std::io;
 
 // Appendix A.1: w0 to w43 for the key 2b 7e 15 16 28 ae d2 a6 ab f7 15 88 09 cf 4f 3c, which is w0 to w3.
@@ -40,107 +38,90 @@ const A3: [u32; 60] = [
     0xfe4890d1, 0xe6188d0b, 0x046df344, 0x706c631e,
 ];
 
-// The word of four bytes, the first one highest.
-fn word(a: u8, b: u8, c: u8, d: u8) -> u32 {
-    (a as u32) * 0x100_0000 + (b as u32) * 0x1_0000 + (c as u32) * 0x100 + (d as u32)
-}
-
-// A column of a round key, as a word.
-fn column(k: [u8; 16], c: usize) -> u32 {
-    let j = c % 4 * 4;
-    word(k[j], k[j + 1], k[j + 2], k[j + 3])
-}
-
-// How many of the words wanted an expanded key does not have.
-fn words_that_differ(w: &[[u8; 16]; 15], wanted: &[u32]) -> u64
-    requires { length wanted.now ≤ 60 }
-{
-    let mut n: u64 = 0;
-    let mut j = 0;
-    while j < wanted.len() {
-        if column(w[j / 4], j) != wanted[j] {
-            n = rsp::more(n);
-        }
-        j += 1;
-    }
-    n
+// How many of the words wanted an expanded key does not have. Each round key has four.
+fn words_that_differ(w: &[[u8; 16]], wanted: &[u32]) -> usize {
+    let words = w.as_flattened().chunks_exact(4);
+    wanted
+        .iter()
+        .zip(words)
+        .filter(|(word, bytes)| word.to_be_bytes().as_slice() != *bytes)
+        .count()
 }
 
 // The expansion of the key that hexadecimal digits say.
-fn expansion(rt: &impl Print, name: &[u8], digits: &[u8], wanted: &[u32]) -> io::Result<Tally>
-    requires { length wanted.now ≤ 60 }
-{
+fn expansion(rt: &impl Print, name: &str, digits: &[u8], wanted: &[u32]) -> io::Result<Tally> {
     let mut key = [0u8; 32];
-    let k = rsp::hex(digits, 0, &mut key);
-    rsp::say(rt, name)?;
+    let k = rsp::hex(digits, &mut key).unwrap_or(0);
     if !key_expansion::is_key_length(k) {
-        Ran::Unread.say(rt)?;
-        return Ok(Tally::none().with(false, Ran::Unread));
+        println!(rt; "{name}: {}", Ran::Unread)?;
+        return Ok(Tally::default().with(Direction::Encipher, Ran::Unread));
     }
     let w = key_expansion::expand(&sbox::byte_table(), &key[..k]);
     let n = words_that_differ(&w, wanted);
-    println!(rt; ": {} words of the key expansion, {n} differ", wanted.len())?;
-    let mut tally = Tally::none();
-    tally.differ = n;
-    Ok(tally)
+    println!(rt; "{name}: {} words of the key expansion, {n} differ", wanted.len())?;
+    Ok(Tally {
+        differ: n as u64,
+        ..Tally::default()
+    })
 }
 
 // The block that 32 hexadecimal digits say.
 fn block(digits: &[u8]) -> [u8; 16] {
     let mut b = [0u8; 16];
-    rsp::hex(digits, 0, &mut b);
+    rsp::hex(digits, &mut b);
     b
 }
 
 // One block by itself, from input to output.
-fn one_way(is_inverse: bool, digits: &[u8], input: &[u8], output: &[u8]) -> Tally {
+fn one_way(direction: Direction, digits: &[u8], input: &[u8], output: &[u8]) -> Tally {
     let mut key = [0u8; 32];
-    let k = rsp::hex(digits, 0, &mut key);
+    let k = rsp::hex(digits, &mut key).unwrap_or(0);
     let mode = Mode {
         is_chained: false,
-        is_inverse: is_inverse,
+        direction,
     };
     let mut text = block(input);
     let wanted = block(output);
     let ran = aes_runs::run_text(mode, key, k, [0u8; 16], &mut text, &wanted, 16);
-    Tally::none().with(is_inverse, ran)
+    Tally::default().with(direction, ran)
 }
 
 fn appendix_b(rt: &impl Print) -> io::Result<Tally> {
     let tally = one_way(
-        false,
+        Direction::Encipher,
         b"2b7e151628aed2a6abf7158809cf4f3c",
         b"3243f6a8885a308d313198a2e0370734",
         b"3925841d02dc09fbdc118597196a0b32",
     );
-    tally.say(rt, b"FIPS 197 B")?;
+    println!(rt; "FIPS 197 B: {tally}")?;
     Ok(tally)
 }
 
 // An example of appendix C: the same block under each key, in both directions.
-fn appendix_c(rt: &impl Print, name: &[u8], key: &[u8], cipher: &[u8]) -> io::Result<Tally> {
+fn appendix_c(rt: &impl Print, name: &str, key: &[u8], cipher: &[u8]) -> io::Result<Tally> {
     let plain = b"00112233445566778899aabbccddeeff";
-    let tally = one_way(false, key, plain, cipher).and(one_way(true, key, cipher, plain));
-    tally.say(rt, name)?;
+    let tally = one_way(Direction::Encipher, key, plain, cipher)
+        .and(one_way(Direction::Decipher, key, cipher, plain));
+    println!(rt; "{name}: {tally}")?;
     Ok(tally)
 }
 
 fn expansions(rt: &impl Print) -> io::Result<Tally> {
     let a = expansion(
         rt,
-        b"FIPS 197 A.1",
+        "FIPS 197 A.1",
         b"2b7e151628aed2a6abf7158809cf4f3c",
         &A1,
     )?;
     let b = expansion(
         rt,
-        b"FIPS 197 A.2",
+        "FIPS 197 A.2",
         b"8e73b0f7da0e6452c810f32b809079e562f8ead2522c6b7b",
         &A2,
     )?;
     let c = expansion(
         rt,
-        b"FIPS 197 A.3",
+        "FIPS 197 A.3",
         b"603deb1015ca71be2b73aef0857d77811f352c073b6108d72d9810a30914dff4",
         &A3,
     )?;
@@ -150,19 +131,19 @@ fn expansions(rt: &impl Print) -> io::Result<Tally> {
 fn ciphers(rt: &impl Print) -> io::Result<Tally> {
     let a = appendix_c(
         rt,
-        b"FIPS 197 C.1",
+        "FIPS 197 C.1",
         b"000102030405060708090a0b0c0d0e0f",
         b"69c4e0d86a7b0430d8cdb78070b4c55a",
     )?;
     let b = appendix_c(
         rt,
-        b"FIPS 197 C.2",
+        "FIPS 197 C.2",
         b"000102030405060708090a0b0c0d0e0f1011121314151617",
         b"dda97ca4864cdfe06eaf70a0ec0d7191",
     )?;
     let c = appendix_c(
         rt,
-        b"FIPS 197 C.3",
+        "FIPS 197 C.3",
         b"000102030405060708090a0b0c0d0e0f101112131415161718191a1b1c1d1e1f",
         b"8ea2b7ca516745bfeafc49904b496089",
     )?;
@@ -173,5 +154,5 @@ fn main(rt: HostRuntime) -> io::Result<()> {
     let a = expansions(&rt)?;
     let b = appendix_b(&rt)?;
     let c = ciphers(&rt)?;
-    a.and(b).and(c).say(&rt, b"total")
+    println!(rt; "total: {}", a.and(b).and(c))
 }
