@@ -3,7 +3,7 @@
 // Runs NIST's response files for AES with keys of 128, 192 and 256 bits, ECB and CBC, in both directions. A file that cannot be read, and a
 // record that cannot, each gives a line of its own, as a block that differs does. A record whose key has not the length that the file's name
 // says is one that cannot be read.
-ghost use Rattle.std.specs.Prelude.{◌≡◌, ◌≤◌, length};
+ghost use Rattle.std.specs.Prelude.{◌≤◌, length, IfSome};
 
 use aes_runs::{Direction, Mode, Ran, Tally};
 use std::io;
@@ -30,6 +30,13 @@ struct Kind {
     key_length: usize,
 }
 
+// Puts the bytes of a field of the record that begins here at the start of `out`, and returns how many they are.
+fn bytes_of(record: &[u8], name: &[u8], out: &mut [u8]) -> Option<usize>
+    ensures { IfSome result (λ n. n ≤ length out.new) }
+{
+    rsp::hex(rsp::field(record, name)?, out)
+}
+
 // Runs the record that begins here, whose texts have at most ten blocks. None if it cannot be run: its key has another length than its
 // file's name says, its texts are not equally many whole blocks, or it has an IV and is not chained, or the other way round.
 fn run_record(record: &[u8], kind: Kind, section: Option<Direction>) -> Option<Ran> {
@@ -37,10 +44,10 @@ fn run_record(record: &[u8], kind: Kind, section: Option<Direction>) -> Option<R
     let mut start = [0u8; 16];
     let mut plain = [0u8; 160];
     let mut cipher = [0u8; 160];
-    let k = rsp::bytes(record, b"KEY = ", &mut key)?;
-    let v = rsp::bytes(record, b"IV = ", &mut start);
-    let n = rsp::bytes(record, b"PLAINTEXT = ", &mut plain)?;
-    let m = rsp::bytes(record, b"CIPHERTEXT = ", &mut cipher)?;
+    let k = bytes_of(record, b"KEY = ", &mut key)?;
+    let v = bytes_of(record, b"IV = ", &mut start);
+    let n = bytes_of(record, b"PLAINTEXT = ", &mut plain)?;
+    let m = bytes_of(record, b"CIPHERTEXT = ", &mut cipher)?;
     if k != kind.key_length || n != m || n % 16 != 0 || kind.is_chained != (v == Some(16)) {
         return None;
     }
@@ -71,7 +78,7 @@ fn complain(
         Some(Direction::Decipher) => " [DECRYPT] ",
         None => " ",
     })?;
-    rt.write_all(rsp::line(record))?;
+    rsp::say_line(rt, record)?;
     println!(rt; ": {ran}")
 }
 

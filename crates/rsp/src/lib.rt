@@ -8,7 +8,7 @@ ghost use Rattle.std.specs.Prelude.{◌<◌, ◌≤◌, length, IfSome};
 
 mod report;
 
-pub use report::{Ran, load, say_bytes};
+pub use report::{Ran, load, say_bytes, say_line};
 
 // Whether a line ends here: CR or LF comes next, or the file ends.
 pub fn line_ends(rest: &[u8]) -> bool {
@@ -16,9 +16,7 @@ pub fn line_ends(rest: &[u8]) -> bool {
 }
 
 // The line, without its end.
-pub fn line(rest: &[u8]) -> &[u8]
-    ensures { length result.now ≤ length rest.now }
-{
+fn line(rest: &[u8]) -> &[u8] {
     match rest.iter().position(|&b| b == b'\r' || b == b'\n') {
         Some(n) => &rest[..n],
         None => rest,
@@ -80,13 +78,6 @@ pub fn hex(value: &[u8], out: &mut [u8]) -> Option<usize>
         *to = pair(two[0], two[1])?;
     }
     Some(n)
-}
-
-// Puts the bytes of a field of the record that begins here at the start of `out`, and returns how many they are.
-pub fn bytes(record: &[u8], name: &[u8], out: &mut [u8]) -> Option<usize>
-    ensures { IfSome result (λ n. n ≤ length out.new) }
-{
-    hex(field(record, name)?, out)
 }
 
 // A value's decimal number. None if there is no digit, more than twelve, or something else before the line ends.

@@ -1,6 +1,7 @@
 // Reading a file whole, what a record gave, and bytes as they are written.
 ghost use Rattle.std.specs.Prelude.{◌≡◌, ◌≢◌};
 
+use crate::line;
 use std::io::Read;
 use std::rt::Files;
 use std::{fmt, fs, io, str};
@@ -61,6 +62,11 @@ fn read_file(rt: &impl Files, name: &[u8], buf: &mut [u8]) -> io::Result<usize> 
         done += n;
     }
     Ok(done)
+}
+
+// Writes the line, without its end.
+pub fn say_line(rt: &impl Print, rest: &[u8]) -> io::Result<()> {
+    rt.write_all(line(rest))
 }
 
 // Writes the bytes in hexadecimal.

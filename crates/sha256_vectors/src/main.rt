@@ -56,7 +56,7 @@ fn complain(rt: &impl Print, name: &[u8], record: &[u8], ran: Ran) -> io::Result
     }
     rt.write_all(name)?;
     rt.print(" ")?;
-    rt.write_all(rsp::line(record))?;
+    rsp::say_line(rt, record)?;
     println!(rt; ": {ran}")
 }
 
@@ -74,8 +74,8 @@ fn message(record: &[u8]) -> Option<Ran> {
     let mut text = [0u8; 8192];
     let mut wanted = [0u8; 32];
     let bits = rsp::decimal(rsp::field(record, b"Len = ")?)?;
-    let given = rsp::bytes(record, b"Msg = ", &mut text)?;
-    if rsp::bytes(record, b"MD = ", &mut wanted)? != 32 {
+    let given = rsp::hex(rsp::field(record, b"Msg = ")?, &mut text)?;
+    if rsp::hex(rsp::field(record, b"MD = ")?, &mut wanted)? != 32 {
         return None;
     }
     let digest = sha256::digest(text.get(..message_len(bits, given)?)?);
@@ -125,13 +125,11 @@ fn seed(file: &[u8]) -> Option<[u8; 32]> {
     (rsp::hex(seed_of(file)?, &mut seed)? == 32).then_some(seed)
 }
 
-// Compares an output with that of the record that begins here.
-fn output(record: &[u8], made: [u8; 32]) -> Ran {
+// Compares an output with that of the record that begins here. None if it cannot be read.
+fn output(record: &[u8], made: [u8; 32]) -> Option<Ran> {
     let mut wanted = [0u8; 32];
-    if rsp::bytes(record, b"MD = ", &mut wanted) != Some(32) {
-        return Ran::Unread;
-    }
-    Ran::compared(&made, &wanted)
+    let size = rsp::hex(rsp::field(record, b"MD = ")?, &mut wanted)?;
+    (size == 32).then_some(Ran::compared(&made, &wanted))
 }
 
 fn outputs(rt: &impl Print, name: &[u8], file: &[u8], start: [u8; 32]) -> io::Result<Tally> {
@@ -141,7 +139,7 @@ fn outputs(rt: &impl Print, name: &[u8], file: &[u8], start: [u8; 32]) -> io::Re
     while !rest.is_empty() {
         if rest.starts_with(b"COUNT = ") {
             let made = thousand(seed);
-            let ran = output(rest, made);
+            let ran = output(rest, made).unwrap_or(Ran::Unread);
             complain(rt, name, rest, ran)?;
             tally = tally.with(ran);
             seed = made;

@@ -27,7 +27,7 @@ enum Operation {
 
 fn show(rt: &impl Print, b: &[u8]) -> io::Result<()> {
     rsp::say_bytes(rt, b)?;
-    rsp::say(rt, b"\n")
+    rt.println("")
 }
 
 fn show_block(rt: &impl Print, b: [u8; 16]) -> io::Result<()> {
@@ -35,18 +35,18 @@ fn show_block(rt: &impl Print, b: [u8; 16]) -> io::Result<()> {
 }
 
 fn none_such(rt: &impl Print) -> io::Result<()> {
-    rsp::say(rt, b"no such operation\n")
+    rt.println("no such operation")
 }
 
-// Puts the bytes that hexadecimal digits say into `out` and answers how many they are: the digits a for a key of 16 bytes, b for 24, c for 32.
-fn published(n: usize, a: &[u8], b: &[u8], c: &[u8], out: &mut [u8]) -> usize {
-    if n == 16 {
-        return rsp::hex(a, 0, out);
+// Puts the bytes that hexadecimal digits say into `out` and returns how many they are: the digits a for a key of 16 bytes, b for 24, c for 32.
+fn published(n: usize, a: &[u8], b: &[u8], c: &[u8], out: &mut [u8]) -> Option<usize>
+    ensures { IfSome result (λ m. m ≤ length out.new) }
+{
+    match n {
+        16 => rsp::hex(a, out),
+        24 => rsp::hex(b, out),
+        _ => rsp::hex(c, out),
     }
-    if n == 24 {
-        return rsp::hex(b, 0, out);
-    }
-    rsp::hex(c, 0, out)
 }
 
 // The key of FIPS 197 C.3, whose first bytes are the keys of C.1 and C.2.
@@ -54,7 +54,6 @@ fn counted_key() -> [u8; 32] {
     let mut k = [0u8; 32];
     rsp::hex(
         b"000102030405060708090a0b0c0d0e0f101112131415161718191a1b1c1d1e1f",
-        0,
         &mut k,
     );
     k
@@ -76,7 +75,7 @@ fn random_key(n: usize) -> [u8; 32] {
 // The block that 32 hexadecimal digits say.
 fn block(digits: &[u8]) -> [u8; 16] {
     let mut b = [0u8; 16];
-    rsp::hex(digits, 0, &mut b);
+    rsp::hex(digits, &mut b);
     b
 }
 
@@ -85,11 +84,9 @@ fn encipher(w: &[[u8; 16]], times: usize) -> [u8; 16]
 {
     let mut b = block(b"00112233445566778899aabbccddeeff");
     let table = sbox::byte_table();
-    let mut i = 0;
-    while i < times {
+    for _ in 0..times {
         let next = aes::encipher(&table, w, b);
         b = next;
-        i += 1;
     }
     b
 }
@@ -112,20 +109,11 @@ fn decipher(n: usize, w: &[[u8; 16]], times: usize) -> [u8; 16]
 {
     let mut b = ciphertext(n);
     let table = sbox::inv_byte_table();
-    let mut i = 0;
-    while i < times {
+    for _ in 0..times {
         let next = aes::decipher(&table, w, b);
         b = next;
-        i += 1;
     }
     b
-}
-
-// Puts a round key over the first 16 bytes of a key.
-fn put_row(key: &mut [u8], row: [u8; 16])
-    requires { 16 ≤ length key.old }
-{
-    octets::copy_at(key, 0, &row);
 }
 
 // Expands the key. The last round key goes over the first 16 bytes of the next one.
@@ -134,16 +122,15 @@ fn expand(key: &mut [u8], times: usize) -> [u8; 16]
 {
     let last = key.len() / 4 + 6;
     let table = sbox::byte_table();
-    let mut i = 0;
-    while i < times {
+    for _ in 0..times {
         let w = key_expansion::expand(&table, key);
-        put_row(key, w[last]);
-        i += 1;
+        octets::copy_at(key, 0, &w[last]);
     }
     octets::block_at(key, 0)
 }
 
-fn show_expand(rt: &impl Print, n: usize, times: usize) -> io::Result<()> {
+fn show_expand(rt: &impl Print, n: Option<usize>, times: usize) -> io::Result<()> {
+    let n = n.unwrap_or(0);
     if !key_expansion::is_key_length(n) {
         return none_such(rt);
     }
@@ -158,20 +145,17 @@ fn hash(text: &mut [u8], n: usize, times: usize) -> [u8; 32]
     requires in_bounds { 32 ≤ length text.old }
 {
     let mut d = sha256::digest(&text[..n]);
-    let mut i = 1;
-    while i < times {
+    for _ in 1..times {
         octets::copy_at(text, 0, &d);
-        let next = sha256::digest(&text[..n]);
-        d = next;
-        i += 1;
+        d = sha256::digest(&text[..n]);
     }
     d
 }
 
-fn show_hash(rt: &impl Print, n: usize, times: usize) -> io::Result<()> {
-    if 1024 < n {
+fn show_hash(rt: &impl Print, n: Option<usize>, times: usize) -> io::Result<()> {
+    let Some(n) = n.filter(|n| *n <= 1024) else {
         return none_such(rt);
-    }
+    };
     let mut text = [0u8; 1024];
     let d = hash(&mut text, n, times);
     show(rt, &d)
@@ -200,30 +184,16 @@ fn chain(key: &[u8], w: &[[u8; 16]], text: &mut [u8], is_inverse: bool, times: u
 {
     let start = block(b"000102030405060708090a0b0c0d0e0f");
     let mut sum = chain_once(key, w, start, text, is_inverse, 0);
-    let mut i = 1;
-    while i < times {
+    for _ in 1..times {
         sum = chain_once(key, w, start, text, is_inverse, sum);
-        i += 1;
     }
     sum
 }
 
-// CBC on the first n bytes.
-fn chain_part(
-    key: &[u8],
-    w: &[[u8; 16]],
-    text: &mut [u8],
-    n: usize,
-    is_inverse: bool,
-    times: usize,
-) -> u32
-    requires { (1 < length w.now) × (n ≤ length text.old) }
-{
-    chain(key, w, &mut text[..n], is_inverse, times)
-}
-
 // The four blocks of SP 800-38A F.2, or what they are enciphered under a key of n bytes; and how many bytes they are.
-fn four_blocks(is_enciphered: bool, n: usize, text: &mut [u8]) -> usize {
+fn four_blocks(is_enciphered: bool, n: usize, text: &mut [u8]) -> Option<usize>
+    ensures { IfSome result (λ m. m ≤ length text.new) }
+{
     if is_enciphered {
         return published(
             n,
@@ -235,7 +205,6 @@ fn four_blocks(is_enciphered: bool, n: usize, text: &mut [u8]) -> usize {
     }
     rsp::hex(
         b"6bc1bee22e409f96e93d7e117393172aae2d8a571e03ac9c9eb76fac45af8e5130c81c46a35ce411e5fbc1191a0a52eff69f2445df4f9b17ad2b417be66c3710",
-        0,
         text,
     )
 }
@@ -251,9 +220,8 @@ fn show_chain(
     requires { 1 < length w.now }
 {
     let mut text = [0u8; 64];
-    let n = four_blocks(is_inverse, key.len(), &mut text);
-    if n <= 64 {
-        let sum = chain_part(key, w, &mut text, n, is_inverse, times);
+    if let Some(n) = four_blocks(is_inverse, key.len(), &mut text) {
+        let sum = chain(key, w, &mut text[..n], is_inverse, times);
         rt.eprint(sum)?;
         show(rt, &text)?;
     }
@@ -265,10 +233,8 @@ fn sum_rows(w: &[[u8; 16]], times: usize) -> u32
     requires { length w.now < 2 ^ 32 }
 {
     let mut sum = work::mix_rows(0, w);
-    let mut i = 1;
-    while i < times {
+    for _ in 1..times {
         sum = work::mix_rows(sum, w);
-        i += 1;
     }
     sum
 }
@@ -299,65 +265,48 @@ fn under(
     }
 }
 
-// An operation under the first n bytes of a key.
+// An operation under a key of n bytes: that of FIPS 197 C for one block, else one of FIPS 197 A.
 fn show_under(
     rt: &(impl Print + Eprint),
     operation: Operation,
-    key: [u8; 32],
-    n: usize,
+    n: Option<usize>,
     times: usize,
 ) -> io::Result<()> {
+    let n = n.unwrap_or(0);
     if !key_expansion::is_key_length(n) {
         return none_such(rt);
     }
+    let key = match operation {
+        Operation::Encipher | Operation::Decipher => counted_key(),
+        _ => random_key(n),
+    };
     under(rt, operation, &key[..n], times)
 }
 
-// An operation whose key is one of FIPS 197 A.
-fn show_random(
-    rt: &(impl Print + Eprint),
-    operation: Operation,
-    n: usize,
-    times: usize,
-) -> io::Result<()> {
-    show_under(rt, operation, random_key(n), n, times)
-}
-
-fn operate(rt: &(impl Print + Eprint), name: &[u8], times: usize) -> io::Result<()> {
-    if times == rsp::NONE {
-        rsp::say(rt, b"no number\n")
-    } else if rsp::starts(name, 0, b"encipher-") {
-        show_under(
-            rt,
-            Operation::Encipher,
-            counted_key(),
-            rsp::decimal(name, 9),
-            times,
-        )
-    } else if rsp::starts(name, 0, b"decipher-") {
-        show_under(
-            rt,
-            Operation::Decipher,
-            counted_key(),
-            rsp::decimal(name, 9),
-            times,
-        )
-    } else if rsp::starts(name, 0, b"expand-") {
-        show_expand(rt, rsp::decimal(name, 7), times)
-    } else if rsp::starts(name, 0, b"cbc-encipher-") {
-        show_random(rt, Operation::ChainEncipher, rsp::decimal(name, 13), times)
-    } else if rsp::starts(name, 0, b"cbc-decipher-") {
-        show_random(rt, Operation::ChainDecipher, rsp::decimal(name, 13), times)
-    } else if rsp::starts(name, 0, b"work-sum-") {
-        show_random(rt, Operation::WorkSum, rsp::decimal(name, 9), times)
-    } else if rsp::starts(name, 0, b"sha256-") {
-        show_hash(rt, rsp::decimal(name, 7), times)
+fn operate(rt: &(impl Print + Eprint), name: &[u8], times: Option<usize>) -> io::Result<()> {
+    let Some(times) = times else {
+        return rt.println("no number");
+    };
+    if let Some(n) = name.strip_prefix(b"encipher-") {
+        show_under(rt, Operation::Encipher, rsp::decimal(n), times)
+    } else if let Some(n) = name.strip_prefix(b"decipher-") {
+        show_under(rt, Operation::Decipher, rsp::decimal(n), times)
+    } else if let Some(n) = name.strip_prefix(b"expand-") {
+        show_expand(rt, rsp::decimal(n), times)
+    } else if let Some(n) = name.strip_prefix(b"cbc-encipher-") {
+        show_under(rt, Operation::ChainEncipher, rsp::decimal(n), times)
+    } else if let Some(n) = name.strip_prefix(b"cbc-decipher-") {
+        show_under(rt, Operation::ChainDecipher, rsp::decimal(n), times)
+    } else if let Some(n) = name.strip_prefix(b"work-sum-") {
+        show_under(rt, Operation::WorkSum, rsp::decimal(n), times)
+    } else if let Some(n) = name.strip_prefix(b"sha256-") {
+        show_hash(rt, rsp::decimal(n), times)
     } else {
         none_such(rt)
     }
 }
 
-// Puts argument i at the start of `out`, and answers how many bytes that are: 0 of one that is longer. None where there is no such argument.
+// Puts argument i at the start of `out`, and returns how many bytes that are: 0 of one that is longer. None if there is no such argument.
 fn argument(rt: &impl Env, i: usize, out: &mut [u8]) -> Option<usize>
     ensures { IfSome result (λ n. n ≤ length out.new) }
 {
@@ -376,7 +325,7 @@ fn run(rt: &(impl Env + Print + Eprint), i: usize, j: usize) -> io::Result<bool>
         return Ok(false);
     };
     let m = argument(rt, j, &mut digits).unwrap_or(0);
-    operate(rt, &name[..n], rsp::decimal(&digits[..m], 0))?;
+    operate(rt, &name[..n], rsp::decimal(&digits[..m]))?;
     Ok(true)
 }
 

@@ -1,8 +1,7 @@
 -- `aes_runs::apply` is safe: a key of 16, 24 or 32 bytes has 11, 13 or 15 rows. Assumes nothing.
 use Rattle.std.proofs.Common.{length, sym, rules}
 use Rattle.key_expansion.specs.KeyLength.{length_most}
-use Rattle.key_expansion.specs.Parts.{rows-part, rows-two}
-use Rattle.std.proofs.Common.{rules}
+use Rattle.key_expansion.specs.Parts.{rows-part}
 use Rattle.aes_runs.proofs.apply.Goals as goal
 
 pub slice_bounds-rows-end : goal.slice_bounds-rows-end
@@ -12,15 +11,3 @@ slice_bounds-rows-end c =
 pub slice_bounds-w-end : goal.slice_bounds-w-end
 slice_bounds-w-end c =
     sym (rows-part (length c.args.key.now) c.requires _ (search rules))
-
-pub each_block-requires : goal.each_block-requires
-each_block-requires c =
-    rows-two (length c.args.key.now) c.requires _ (search rules)
-
-pub decipher-requires : goal.decipher-requires
-decipher-requires c =
-    rows-two (length c.args.key.now) c.requires _ (search rules)
-
-pub encipher-requires : goal.encipher-requires
-encipher-requires c =
-    rows-two (length c.args.key.now) c.requires _ (search rules)

@@ -6,15 +6,15 @@ use Rattle.speed.proofs.show_expand.Goals as goal
 
 pub slice_bounds-key-end : goal.slice_bounds-key-end
 slice_bounds-key-end g c =
-    let e : is_key_length c.args.n ≡ true = sym c.is_key_length.ensures ∙ c.if-not-is_key_length.false in
-    search (rules, length_most c.args.n e)
+    let e : is_key_length c.unwrap_or-n.result ≡ true = sym c.is_key_length.ensures ∙ c.if-not-is_key_length.false in
+    search (rules, length_most c.unwrap_or-n.result e)
 
 pub slice_bounds-expand-end : goal.slice_bounds-expand-end
 slice_bounds-expand-end g c =
-    let e : is_key_length c.args.n ≡ true = sym c.is_key_length.ensures ∙ c.if-not-is_key_length.false in
-    sym (key-part c.args.n e _ (search rules))
+    let e : is_key_length c.unwrap_or-n.result ≡ true = sym c.is_key_length.ensures ∙ c.if-not-is_key_length.false in
+    sym (key-part c.unwrap_or-n.result e _ (search rules))
 
 pub expand-requires : goal.expand-requires
 expand-requires g c =
-    let e : is_key_length c.args.n ≡ true = sym c.is_key_length.ensures ∙ c.if-not-is_key_length.false in
-    key-good c.args.n e _ (search rules)
+    let e : is_key_length c.unwrap_or-n.result ≡ true = sym c.is_key_length.ensures ∙ c.if-not-is_key_length.false in
+    key-good c.unwrap_or-n.result e _ (search rules)
