@@ -58,7 +58,10 @@ fn expansion(rt: &impl Print, name: &str, digits: &[u8], wanted: &[u32]) -> io::
     }
     let w = key_expansion::expand(&sbox::byte_table(), &key[..k]);
     let n = words_that_differ(&w, wanted);
-    println!(rt; "{name}: {} words of the key expansion, {n} differ", wanted.len())?;
+    println!(rt;
+        "{name}: {} words of the key expansion, {n} differ",
+        wanted.len()
+    )?;
     Ok(Tally {
         differ: n as u64,
         ..Tally::default()
@@ -100,19 +103,18 @@ fn appendix_b(rt: &impl Print) -> io::Result<Tally> {
 // An example of appendix C: the same block under each key, in both directions.
 fn appendix_c(rt: &impl Print, name: &str, key: &[u8], cipher: &[u8]) -> io::Result<Tally> {
     let plain = b"00112233445566778899aabbccddeeff";
-    let tally = one_way(Direction::Encipher, key, plain, cipher)
-        .and(one_way(Direction::Decipher, key, cipher, plain));
+    let tally = one_way(Direction::Encipher, key, plain, cipher).and(one_way(
+        Direction::Decipher,
+        key,
+        cipher,
+        plain,
+    ));
     println!(rt; "{name}: {tally}")?;
     Ok(tally)
 }
 
 fn expansions(rt: &impl Print) -> io::Result<Tally> {
-    let a = expansion(
-        rt,
-        "FIPS 197 A.1",
-        b"2b7e151628aed2a6abf7158809cf4f3c",
-        &A1,
-    )?;
+    let a = expansion(rt, "FIPS 197 A.1", b"2b7e151628aed2a6abf7158809cf4f3c", &A1)?;
     let b = expansion(
         rt,
         "FIPS 197 A.2",

@@ -56,8 +56,18 @@ fn run_record(record: &[u8], kind: Kind, section: Option<Direction>) -> Option<R
         direction: section?,
     };
     match mode.direction {
-        Direction::Encipher => Some(aes_runs::run_text(mode, key, k, start, &mut plain, &cipher, n)),
-        Direction::Decipher => Some(aes_runs::run_text(mode, key, k, start, &mut cipher, &plain, n)),
+        Direction::Encipher => Some(aes_runs::run_text(
+            mode, key, k, start, &mut plain, &cipher, n,
+        )),
+        Direction::Decipher => Some(aes_runs::run_text(
+            mode,
+            key,
+            k,
+            start,
+            &mut cipher,
+            &plain,
+            n,
+        )),
     }
 }
 
