@@ -2,7 +2,6 @@
 #![tactic(auto)]
 
 ghost use Rattle.std.specs.Prelude.{◌≡◌, ◌<◌, take};
-ghost use Rattle.sha_words.specs.Words.{word};
 ghost use Rattle.sha_padding.specs.Parsing.{block_words};
 ghost use Rattle.sha_block.specs.Hash.{next_word, schedule, turn, turns, compressed};
 
@@ -24,34 +23,20 @@ const K: [u32; 64] = [
 fn one_turn(v: [u32; 8], k: u32, w: u32) -> [u32; 8]
     ensures { result ≡ turn v k w }
 {
-    let a = v[0];
-    let b = v[1];
-    let c = v[2];
-    let e = v[4];
-    let f = v[5];
-    let g = v[6];
-    let t1 = add(add(add(add(v[7], upper_sigma1(e)), choose(e, f, g)), k), w);
+    let [a, b, c, d, e, f, g, h] = v;
+    let t1 = add(add(add(add(h, upper_sigma1(e)), choose(e, f, g)), k), w);
     let t2 = add(upper_sigma0(a), majority(a, b, c));
-    [add(t1, t2), a, b, c, add(v[3], t1), e, f, g]
+    [add(t1, t2), a, b, c, add(d, t1), e, f, g]
 }
 
-// The big-endian word of four bytes.
-fn word_of(a: u8, b: u8, c: u8, d: u8) -> u32
-    ensures { result ≡ word a b c d }
-{
-    (a as u32) * 0x100_0000 + (b as u32) * 0x1_0000 + (c as u32) * 0x100 + (d as u32)
-}
-
-// The block's sixteen words, with room for the rest of the schedule.
+// The block's sixteen big-endian words, with room for the rest of the schedule.
 fn load(b: &[u8; 64]) -> [u32; 64]
     ensures { take 16 result ≡ block_words b.now }
 {
     let mut w = [0u32; 64];
-    let mut i: usize = 0;
-    while i < 16 {
+    for i in 0..16 {
         let j = 4 * i;
-        w[i] = word_of(b[j], b[j + 1], b[j + 2], b[j + 3]);
-        i += 1;
+        w[i] = u32::from_be_bytes([b[j], b[j + 1], b[j + 2], b[j + 3]]);
     }
     w
 }
@@ -75,17 +60,8 @@ fn full_schedule(b: &[u8; 64]) -> [u32; 64]
     ensures { result ≡ schedule (block_words b.now) 48 }
 {
     let mut w = load(b);
-    let mut n: usize = 0;
-    while n < 48 {
+    for n in 0..48 {
         w[n + 16] = next_word(&w, n);
-        w[n + 17] = next_word(&w, n + 1);
-        w[n + 18] = next_word(&w, n + 2);
-        w[n + 19] = next_word(&w, n + 3);
-        w[n + 20] = next_word(&w, n + 4);
-        w[n + 21] = next_word(&w, n + 5);
-        w[n + 22] = next_word(&w, n + 6);
-        w[n + 23] = next_word(&w, n + 7);
-        n += 8;
     }
     w
 }
@@ -96,18 +72,9 @@ fn all_turns(w: [u32; 64], h: [u32; 8]) -> [u32; 8]
 {
     let k = K;
     let mut v = h;
-    let mut i: usize = 0;
-    while i < 64 {
-        let a = one_turn(v, k[i], w[i]);
-        let b = one_turn(a, k[i + 1], w[i + 1]);
-        let c = one_turn(b, k[i + 2], w[i + 2]);
-        let d = one_turn(c, k[i + 3], w[i + 3]);
-        let e = one_turn(d, k[i + 4], w[i + 4]);
-        let f = one_turn(e, k[i + 5], w[i + 5]);
-        let g = one_turn(f, k[i + 6], w[i + 6]);
-        let n = one_turn(g, k[i + 7], w[i + 7]);
-        v = n;
-        i += 8;
+    for i in 0..64 {
+        let next = one_turn(v, k[i], w[i]);
+        v = next;
     }
     v
 }

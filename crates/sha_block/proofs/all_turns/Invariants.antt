@@ -1,13 +1,8 @@
 -- `sha_block::all_turns` meets its contract. The loop's invariant: v is what i turns made of h. Assumes nothing.
--- one turn more
-use mathlib.Core.Path.{◌≡◌}
-use Prim.Native.Nat.{◌-◌, ◌%◌, ◌≤◌}
+use Rattle.std.proofs.Common.{◌≡◌}
 use Rattle.sha_block.specs.Constants.{constants}
 use Rattle.sha_block.specs.Hash.{turns}
 use Rattle.sha_block.proofs.all_turns.Given as goal
 
 abbrev pub invariant-loop-i : goal.invariant-loop-i
-invariant-loop-i l = (l.k ≡ constants) × (l.i ≤ 64) × (l.i % 8 ≡ 0) × (l.v ≡ turns l.w l.initial.v l.i)
-
-abbrev pub decreases-loop-i : goal.decreases-loop-i
-decreases-loop-i l = 64 - l.i
+invariant-loop-i l = (l.k ≡ constants) × (l.v ≡ turns l.w l.initial.v l.i)
