@@ -72,9 +72,17 @@ fn all_turns(w: [u32; 64], h: [u32; 8]) -> [u32; 8]
 {
     let k = K;
     let mut v = h;
-    for i in 0..64 {
-        let next = one_turn(v, k[i], w[i]);
-        v = next;
+    for n in 0..8 {
+        let i = 8 * n;
+        let a = one_turn(v, k[i], w[i]);
+        let b = one_turn(a, k[i + 1], w[i + 1]);
+        let c = one_turn(b, k[i + 2], w[i + 2]);
+        let d = one_turn(c, k[i + 3], w[i + 3]);
+        let e = one_turn(d, k[i + 4], w[i + 4]);
+        let f = one_turn(e, k[i + 5], w[i + 5]);
+        let g = one_turn(f, k[i + 6], w[i + 6]);
+        let h = one_turn(g, k[i + 7], w[i + 7]);
+        v = h;
     }
     v
 }
