@@ -1,9 +1,7 @@
--- `sha_block::full_schedule` meets its contract: each turn of the loop puts one word more after those of the schedule. Assumes nothing.
-use Rattle.std.proofs.Common.{◌≡◌, refl, sym, ap, ap₂, ◌∙◌, List, [], ◌∷◌, ◌++◌, ℕ, suc, ◌+◌, ◌<◌, add-one, length, get_or, take, set, length-set, get_or-take, arith, rules}
+-- `sha_block::full_schedule` meets its contract: each turn of the inner loop puts one word more after those of the schedule. Assumes nothing.
+use Rattle.std.proofs.Common.{◌≡◌, sym, ap, ap₂, ◌∙◌, List, [], ◌∷◌, ◌++◌, ℕ, suc, ◌+◌, ◌*◌, ◌<◌, get_or, take, set, length-set, get_or-take, arith, rules}
 use Rattle.std.proofs.Math.Seq.{take-suc-set, take_all}
-use Rattle.sha_words.specs.Functions.{sigma0, sigma1}
 use Rattle.sha_block.specs.Hash.{next_word, schedule}
-use Rattle.sha_block.proofs.Sums.{summed}
 use Rattle.sha_block.proofs.full_schedule.Invariants.{Grown}
 use Rattle.sha_block.proofs.full_schedule.Goals as goal
 
@@ -14,9 +12,11 @@ module _ {m w : List ℕ} (n : ℕ) (g : Grown m w n) where
   -- the next word is that of the words so far
   next : next_word w n ≡ next_word (schedule m n) n
   next =
-      summed refl
-      (summed refl (summed refl (ap sigma1 (at (n + 14) (omega arith))) (at (n + 9) (omega arith))) (ap sigma0 (at (n + 1) (omega arith))))
-      (at n (omega arith))
+      let p = at (n + 14) (omega arith) in
+      let q = at (n + 9) (omega arith) in
+      let r = at (n + 1) (omega arith) in
+      let t = at n (omega arith) in
+      cc
 
   -- one word more
   grown : {v : ℕ} → n < 48 → v ≡ next_word w n → Grown m (set w (n + 16) v) (suc n)
@@ -32,17 +32,19 @@ module _ {m w : List ℕ} (n : ℕ) (g : Grown m w n) where
       one : suc n + 16 ≡ suc (n + 16)
       one = omega arith
 
-pub loop-n-init : goal.loop-n-init
+pub loop-i-init : goal.loop-i-init
 unfolding schedule
-loop-n-init c = record { long = search (rules, c.load-w.type_inv); made = c.load-w.ensures }
+loop-i-init c = record { long = search (rules, c.load-w.type_inv); made = c.load-w.ensures }
 
-pub loop-n-preserved : goal.loop-n-preserved
-loop-n-preserved c =
-    let n = c.loop-n.n in
-    rw add-one (grown n c.loop-n.invariant c.loop-n-test.true c.next_word.ensures)
+pub loop-j-preserved : goal.loop-j-preserved
+loop-j-preserved c =
+    let n : ℕ = 8 * c.loop-i.i + c.loop-j.j in
+    let e : 8 * c.loop-i.i + (c.loop-j.j + 1) ≡ suc n = omega arith in
+    rw e (grown n c.loop-j.invariant (omega arith) c.next_word.ensures)
 
 pub returns : goal.returns
 returns c =
-    let l = c.loop-n in
-    let e : l.n ≡ 48 = omega arith in
-    sym (take_all (l.n + 16) l.w (omega (arith, l.invariant.long))) ∙ l.invariant.made ∙ ap (schedule _) e
+    let l = c.loop-i in
+    let e : l.i ≡ 6 = omega arith in
+    let g = rw e at l.invariant in
+    sym (take_all 64 l.w (omega (arith, g.long))) ∙ g.made
