@@ -1,8 +1,7 @@
 //! SHA-256 of FIPS 180-4: the hash of a message.
 #![tactic(auto)]
 
-ghost use Rattle.std.specs.Prelude.{◌≡◌, ◌<◌, get_or};
-ghost use Rattle.sha_words.specs.Words.{word_bytes};
+ghost use Rattle.std.specs.Prelude.{◌≡◌};
 ghost use Rattle.sha_padding.specs.Parsing.{blocks};
 ghost use Rattle.sha_block.specs.Initial.{initial_hash};
 ghost use Rattle.sha_block.specs.Hash.{state_after, digest_bytes, sha256};
@@ -17,23 +16,13 @@ pub fn initial() -> [u32; 8]
     ]
 }
 
-// Byte k of a word, the first the most significant.
-fn word_byte(x: u32, k: usize) -> u8
-    requires { k < 4 }
-    ensures { result ≡ get_or (word_bytes x) k 0 }
-{
-    ((x >> (24 - 8 * k)) % 256) as u8
-}
-
 // The digest: the words of a hash value as bytes.
 pub fn to_bytes(h: [u32; 8]) -> [u8; 32]
     ensures { result ≡ digest_bytes h }
 {
     let mut d = [0u8; 32];
-    let mut i: usize = 0;
-    while i < 32 {
-        d[i] = word_byte(h[i / 4], i % 4);
-        i += 1;
+    for i in 0..8 {
+        d[4 * i..4 * i + 4].copy_from_slice(&h[i].to_be_bytes());
     }
     d
 }
@@ -51,12 +40,10 @@ pub fn hash(m: &[u8]) -> Hashed
 {
     let n = sha_padding::block_count(m);
     let mut h = initial();
-    let mut i: usize = 0;
-    while i < n {
+    for i in 0..n {
         let b = sha_padding::padded_block(m, i);
         let x = sha_block::compress(h, &b);
         h = x;
-        i += 1;
     }
     Hashed {
         state: h,
@@ -68,7 +55,5 @@ pub fn hash(m: &[u8]) -> Hashed
 pub fn digest(m: &[u8]) -> [u8; 32]
     ensures { result ≡ sha256 m.now }
 {
-    let x = hash(m);
-    let h = x.state;
-    to_bytes(h)
+    to_bytes(hash(m).state)
 }

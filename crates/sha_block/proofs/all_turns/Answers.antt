@@ -5,9 +5,13 @@ use Rattle.sha_block.specs.Hash.{turn, turns}
 use Rattle.sha_block.proofs.all_turns.Goals as goal
 
 -- one turn more
-more : (w h : List ℕ) (t s : ℕ) {k v r : List ℕ} → k ≡ constants → s ≡ suc t → v ≡ turns w h t → r ≡ turn v (get_or k t 0) (get_or w t 0) → r ≡ turns w h s
+more : (w h : List ℕ) (t s : ℕ) {k v r : List ℕ} → k ≡ constants → s ≡ suc t → v ≡ turns w h t
+    → r ≡ turn v (get_or k t 0) (get_or w t 0) → r ≡ turns w h s
 unfolding turns
-more w h t s p q e f = f ∙ ap₂ (λ (v k : List ℕ). turn v (get_or k t 0) (get_or w t 0)) e p ∙ ap (turns w h) (sym q)
+more w h t s p q e f =
+    f
+    ∙ ap₂ (λ (v k : List ℕ). turn v (get_or k t 0) (get_or w t 0)) e p
+    ∙ ap (turns w h) (sym q)
 
 pub loop-n-init : goal.loop-n-init
 unfolding constants turns

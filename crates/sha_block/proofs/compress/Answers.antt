@@ -10,6 +10,7 @@ unfolding compressed
 returns c =
     let h = c.args.h in
     let v = c.all_turns-v.result in
-    let word : (j : ℕ) → j < 8 → get_or c.from_fn.result j 0 ≡ plus (get_or v j 0) (get_or h j 0) = λ j l. search rules in
+    let word : (j : ℕ) → j < 8 → get_or c.from_fn.result j 0 ≡ plus (get_or v j 0) (get_or h j 0) =
+    λ j l. search rules in
     fill_by_all _ c.from_fn.result 8 0 c.from_fn.ensures.items.long word
     ∙ ap (sums h) (c.all_turns-v.ensures ∙ ap (λ (w : List ℕ). turns w h 64) c.full_schedule.ensures)
