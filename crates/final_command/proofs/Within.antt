@@ -2,7 +2,7 @@
 use mathlib.Core.Path.{◌≡◌, refl, sym, ap, ◌∙◌}
 use mathlib.Core.Bool.{Bool, true, false, cond}
 use mathlib.Core.List.{List, ◌++◌}
-use Prim.Native.Nat.{ℕ, ◌+◌, ◌-◌, ◌*◌, ◌≤◌}
+use Prim.Native.Nat.{ℕ, ◌+◌, ◌-◌, ◌*◌, ◌≤◌, min}
 use native.Mathlib.Omega.{arith}
 use lib.Dec.{ltb}
 use lib.ListN.{length, take, drop, replicate, length-append, length-take, length-drop, length-replicate, drop_of_length-le}
@@ -13,6 +13,13 @@ use Rattle.padding.specs.Method2.{padded, pad_buffer}
 use Rattle.plaid_types.specs.declared.ModeSlot.{ModeSlot}
 use Rattle.final_command.specs.Final.{least, record_of, body_of, reply_text}
 use Rattle.final_command.proofs.Buffers.{over-behind, over-padded}
+
+least-by : (a b : ℕ) (t : Bool) → ltb a b ≡ t → min a b ≡ cond t a b
+least-by a b true e = omega (arith, ltb-true a b e)
+least-by a b false e = omega (arith, ltb-false a b e)
+
+pub min-least : (a b : ℕ) → min a b ≡ least a b
+min-least a b = least-by a b (ltb a b) refl
 
 -- taking at most what is there, from at most the end on
 take-least : {A : Type 0} (n : ℕ) (l : List A) (b : Bool) → ltb n (length l) ≡ b → take (cond b n (length l)) l ≡ take n l

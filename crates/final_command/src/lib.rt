@@ -12,12 +12,13 @@ ghost use Rattle.work.specs.Steps.{comparison, counted, sum_from};
 ghost use Rattle.cbc.specs.Cbc.{encrypted, zeros};
 ghost use Rattle.plaid_types.specs.Keys.{key_length_of, held};
 ghost use Rattle.plaid_types.specs.Cards.{no_mode};
-ghost use Rattle.final_command.specs.Final.{least, op_mode, mode_steps, first_mode, accepting, accepts_final, record_of, size_of, reply_text, final_reply};
+ghost use Rattle.final_command.specs.Final.{op_mode, mode_steps, first_mode, accepting, accepts_final, record_of, size_of, reply_text, final_reply};
 ghost use Rattle.final_command.specs.Parts.{derived, deciphered_under, hashing, opened_text, sealing, buffer_of, sent};
 ghost use Rattle.final_command.specs.Told.{told_final};
 
 use plaid_types::{Answer, Card, ModeSlot, OpModeId, Value};
 
+// A function, so that both values are read before one is taken.
 fn choose(t: bool, a: [u8; Value::MOST], b: [u8; Value::MOST]) -> [u8; Value::MOST]
     ensures { result ≡ cond t a b }
 {
@@ -28,10 +29,7 @@ fn choose(t: bool, a: [u8; Value::MOST], b: [u8; Value::MOST]) -> [u8; Value::MO
 fn fa_key(card: Card) -> [u8; Value::MOST]
     ensures { result ≡ cond card.session.opened card.session.fa_key card.shill_key }
 {
-    let s = card.session;
-    let key = s.fa_key;
-    let shill = card.shill_key;
-    choose(s.opened, key, shill)
+    choose(card.session.opened, card.session.fa_key, card.shill_key)
 }
 
 // The diversified key, in the first of its bytes, and what was made for it.
@@ -119,21 +117,18 @@ fn open_text(card: Card, d: &[u8]) -> Opened
     requires { length d.now < 256 }
     ensures { result ≡ opened_text card d.now }
 {
-    let session = card.session;
-    let div = card.div_data;
     let l = plaid_types::lawful(card.key_length);
     let held = fa_key(card);
     let fa = &held[..l];
     let table = sbox::byte_table();
-    let k = diversify(&table, fa, div, 0);
+    let k = diversify(&table, fa, card.div_data, 0);
     let long = k.key;
     let key = &long[..l];
     let e = steps::expand(&table, key, k.sum);
     let rows = steps::round_keys(e);
     let t = decipher(key, &rows, d, e.sum);
     let text = t.text;
-    let kept = session.rnd1;
-    let rnd1 = choose(session.opened, kept, [0u8; Value::MOST]);
+    let rnd1 = choose(card.session.opened, card.session.rnd1, [0u8; Value::MOST]);
     let h = hashed(&rnd1[..l], &text, t.sum);
     let digest = h.digest;
     Opened {
@@ -160,15 +155,11 @@ fn compare_modes(modes: [ModeSlot; Card::MODES], v: OpModeId, sum: u32) -> Found
     let mut at = Card::MODES;
     let mut s = sum;
     let mut count: usize = 0;
-    let mut i: usize = 0;
-    while i < Card::MODES {
-        let k = modes[i];
-        let w = k.id;
-        let c = steps::compare_modes(v, k.held, w, s);
+    for (i, k) in modes.iter().enumerate() {
+        let c = steps::compare_modes(v, k.held, k.id, s);
         s = c.sum;
         count += c.count;
         at = steps::keep(Card::MODES, at, i, c.hit);
-        i += 1;
     }
     Found {
         at: at,
@@ -189,10 +180,7 @@ fn ends_with(s: &[u8], t: usize, hash: &[u8]) -> bool
     ensures { result ≡ (leb (2 + 2 * length hash.now) t && same (part s.now (t - length hash.now) (length hash.now)) hash.now) }
 {
     let l = hash.len();
-    if 2 + 2 * l <= t {
-        return octets::equal(octets::part_of(s, t - l, l), hash);
-    }
-    false
+    2 + 2 * l <= t && octets::equal(octets::part_of(s, t - l, l), hash)
 }
 
 // The text is rightly padded, ends with KeysHash, and names a mode that is held.
@@ -200,8 +188,7 @@ fn sealed(s: &[u8], hash: &[u8], held: bool) -> bool
     requires { length hash.now ≤ 32 }
     ensures { result ≡ sealing s.now hash.now held }
 {
-    let u = padding::unpad(s);
-    match u {
+    match padding::unpad(s) {
         Some(t) => octets::both(ends_with(s, t, hash), held),
         None => false,
     }
@@ -231,24 +218,18 @@ fn mode_at(modes: [ModeSlot; Card::MODES], at: usize) -> ModeSlot
     }
 }
 
-fn lesser(a: usize, b: usize) -> usize
-    ensures { (result ≡ least a b) × (result ≤ a) × (result ≤ b) }
-{
-    if a < b { a } else { b }
-}
-
 // What is enciphered starts as a part of the record area or as a part of the fresh bytes.
 fn source<'a>(accepted: bool, area: &'a [u8], mode: ModeSlot, fresh: &'a [u8], n: usize) -> &'a [u8]
     requires { n ≤ length fresh.now }
     ensures { result.now ≡ cond accepted (record_of area.now mode) (part fresh.now 0 n) }
 {
     if accepted {
-        let a = lesser(mode.start, area.len());
-        let most = lesser(mode.len, Card::RECORD);
-        let e = a + lesser(most, area.len() - a);
+        let a = mode.start.min(area.len());
+        let most = mode.len.min(Card::RECORD);
+        let e = a + most.min(area.len() - a);
         return &area[a..e];
     }
-    &fresh[0..n]
+    &fresh[..n]
 }
 
 // How many zero bytes follow a record of n bytes.
@@ -256,11 +237,7 @@ fn payload_length(n: usize, size: usize) -> usize
     requires { (n ≤ 64) × (size ≤ 6) }
     ensures { result ≡ 16 * (size - 2) - n }
 {
-    if 32 + n < 16 * size {
-        16 * size - 32 - n
-    } else {
-        0
-    }
+    (16 * size).saturating_sub(32 + n)
 }
 
 fn reply_text(
@@ -312,17 +289,14 @@ fn reply(
     ensures told { result ≡ sent (held (key_length_of card) (cond accepted digest card.shill_key)) (size_of card) (buffer_of (reply_text accepted card.area mode card.div_data fresh.now (size_of card))) sum }
     ensures bytes { out.new ≡ over out.old 0 (encrypted (aes_under (held (key_length_of card) (cond accepted digest card.shill_key))) zeros (size_of card) (buffer_of (reply_text accepted card.area mode card.div_data fresh.now (size_of card)))) }
 {
-    let shill = card.shill_key;
-    let area = card.area;
-    let div = card.div_data;
     let l = plaid_types::lawful(card.key_length);
-    let chosen = choose(accepted, digest, shill);
+    let chosen = choose(accepted, digest, card.shill_key);
     let key = &chosen[..l];
     let table = sbox::byte_table();
     let e = steps::expand(&table, key, sum);
     let rows = steps::round_keys(e);
-    let size = lesser(card.reply_size, Card::REPLY_MOST);
-    let mut b = reply_text(accepted, area, mode, div, fresh, size);
+    let size = card.reply_size.min(Card::REPLY_MOST);
+    let mut b = reply_text(accepted, card.area, mode, card.div_data, fresh, size);
     let n = 16 * size;
     let m = cbc::encipher_under(key, &rows, [0u8; 16], &mut b[..n], e.sum);
     octets::copy_at(out, 0, &b[..n]);
@@ -352,15 +326,13 @@ pub fn run(card: Card, d: &[u8], fresh: &[u8], out: &mut [u8]) -> Final
     ensures told { result ≡ told_final (accepts_final card d.now) (final_reply card d.now fresh.now) }
     ensures bytes { out.new ≡ over out.old 0 (final_reply card d.now fresh.now).bytes }
 {
-    let session = card.session;
-    let modes = card.modes;
     let l = plaid_types::lawful(card.key_length);
     let o = open_text(card, d);
     let text = o.text;
     let digest = o.digest;
-    let f = compare_modes(modes, op_mode(text), o.sum);
-    let accepted = accepts(session.opened, d.len(), text, &digest[..l], f.at);
-    let mode = mode_at(modes, f.at);
+    let f = compare_modes(card.modes, op_mode(text), o.sum);
+    let accepted = accepts(card.session.opened, d.len(), text, &digest[..l], f.at);
+    let mode = mode_at(card.modes, f.at);
     let s = reply(card, accepted, digest, mode, f.sum, fresh, out);
     Final {
         comparisons: f.count,

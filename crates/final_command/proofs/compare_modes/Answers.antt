@@ -17,11 +17,12 @@ loop-i-preserved c =
     let l = c.loop-i in
     let a = c.args in
     let e = c.compare_modes-c.ensures in
+    let n : length a.modes ≡ 16 = omega arith in
+    let k : l.i < 16 = c.loop-i-test.true in
     let h : l.i < length a.modes = omega arith in (
-      omega arith,
-      omega (arith, ap (λ r. r.count) e),
-      ap (λ r. sum_from r.sum (mode_steps a.v (drop (l.i + 1) a.modes))) e ∙ sym (sum-turn a.v a.modes l.i l.s h) ∙ l.invariant.2,
-      rw (c.keep-at.ensures, kept_next _ _ _ _ _ c.loop-i-test.true, ap (λ r. r.hit) e) (rw (first-turn a.v a.modes l.i h) at l.invariant.3),
+      omega (arith, ap (λ r. r.count) e, l.invariant.0),
+      ap (λ r. sum_from r.sum (mode_steps a.v (drop (l.i + 1) a.modes))) e ∙ sym (sum-turn a.v a.modes l.i l.s h) ∙ l.invariant.1,
+      rw (c.keep-at.ensures, kept_next _ _ _ _ _ k, ap (λ r. r.hit) e) (rw (first-turn a.v a.modes l.i h) at l.invariant.2),
     )
 
 pub returns : goal.returns
@@ -29,5 +30,5 @@ returns c =
     let l = c.loop-i in
     let a = c.args in
     let n : length a.modes ≡ 16 = omega arith in
-    let e : l.i ≡ 16 = omega arith in
-    found-same a.v a.modes l.i l.at l.count l.s a.sum n e l.invariant.1 l.invariant.2 l.invariant.3
+    let e : l.i ≡ 16 = omega (arith, l.auto.i-end, c.loop-i-test.false) in
+    found-same a.v a.modes l.i l.at l.count l.s a.sum n e l.invariant.0 l.invariant.1 l.invariant.2

@@ -16,7 +16,7 @@ returns-then-l-t c =
     let a = c.args in
     simp (c.equal.ensures, c.part_of.ensures, le-leb (2 + 2 * length a.hash.now) a.t c.if-l-t.true)
 
-pub returns : goal.returns
-returns c =
+pub returns-else-l-t : goal.returns-else-l-t
+returns-else-l-t c =
     let a = c.args in
     simp (lt-leb (2 + 2 * length a.hash.now) a.t c.if-l-t.false)
