@@ -22,11 +22,12 @@ pub fn is_key_length(n: usize) -> bool
 fn rot_sub(table: &[u8; 256], w: u32, x: u8) -> u32
     ensures { result ≡ word (bit_xor (get_or table.now (byte_at w 1) 0) x) (get_or table.now (byte_at w 2) 0) (get_or table.now (byte_at w 3) 0) (get_or table.now (byte_at w 0) 0) }
 {
+    let b = w.to_le_bytes();
     column::word(
-        table[(w / 256 % 256) as usize] ^ x,
-        table[(w / 256 / 256 % 256) as usize],
-        table[(w / 256 / 256 / 256 % 256) as usize],
-        table[(w % 256) as usize],
+        table[usize::from(b[1])] ^ x,
+        table[usize::from(b[2])],
+        table[usize::from(b[3])],
+        table[usize::from(b[0])],
     )
 }
 

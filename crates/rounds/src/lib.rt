@@ -9,7 +9,8 @@ ghost use Rattle.rounds.specs.Columns.{state_of};
 ghost use Rattle.rounds.specs.Cipher.{sub_bytes, shift_rows, mix_columns, add_round_key, round, last_round};
 ghost use Rattle.rounds.specs.InvCipher.{inv_sub_bytes, inv_shift_rows, inv_mix_columns, inv_round, inv_last_round};
 
-// The columns of a state, from the first. The state that they mean is `state_of`.
+// The columns of a state, from the first. The state that they mean is `state_of`. Four fields and not `[u32; 4]`: a field needs no
+// proof of an index, and `s.c1` is no longer than `s[1]`.
 #[derive(Clone, Copy)]
 pub struct Columns {
     pub c0: u32,
@@ -40,7 +41,7 @@ pub fn bytes_of(s: Columns) -> [u8; 16]
     column::put(three, 12, s.c3)
 }
 
-// MIXCOLUMNS.
+// MIXCOLUMNS. It is no twin of `inv_mix_columns`: they call two functions, and the four calls are plainer than a closure over them.
 pub fn mix_columns(s: Columns) -> Columns
     ensures { state_of result ≡ mix_columns (state_of s) }
 {
@@ -91,10 +92,10 @@ pub fn looked_up(table: &[u8; 256], a: u32, b: u32, c: u32, d: u32) -> u32
     ensures { result ≡ word (get_or table.now (byte_at a 0) 0) (get_or table.now (byte_at b 1) 0) (get_or table.now (byte_at c 2) 0) (get_or table.now (byte_at d 3) 0) }
 {
     column::word(
-        table[(a % 256) as usize],
-        table[(b / 256 % 256) as usize],
-        table[(c / 256 / 256 % 256) as usize],
-        table[(d / 256 / 256 / 256 % 256) as usize],
+        table[usize::from(a.to_le_bytes()[0])],
+        table[usize::from(b.to_le_bytes()[1])],
+        table[usize::from(c.to_le_bytes()[2])],
+        table[usize::from(d.to_le_bytes()[3])],
     )
 }
 
