@@ -50,6 +50,7 @@ fn diversify(table: &[u8; 256], fa: &[u8], div: [u8; 16], sum: u32) -> Derived
     let rows = steps::round_keys(e);
     let n = fa.len() / 4 + 7;
     let k = diversification::diversify(table, fa, &rows[..n], div, e.sum);
+    // An array field goes into a literal by a variable: the check does not take it straight.
     let key = k.key;
     Derived {
         key: key,
@@ -130,6 +131,7 @@ fn open_text(card: Card, d: &[u8]) -> Opened
     let text = t.text;
     let rnd1 = choose(card.session.opened, card.session.rnd1, [0u8; Value::MOST]);
     let h = hashed(&rnd1[..l], &text, t.sum);
+    // By a variable, as in `diversify`.
     let digest = h.digest;
     Opened {
         text: text,
@@ -203,6 +205,7 @@ fn accepts(opened: bool, lc: usize, text: [u8; Deciphered::TEXT], hash: &[u8], m
     octets::both(opened, octets::both(lc % 16 == 0, good))
 }
 
+// By `get` it would be no shorter: the empty slot is a literal all the same.
 fn mode_at(modes: [ModeSlot; Card::MODES], at: usize) -> ModeSlot
     ensures { result ≡ get_or modes at no_mode }
 {

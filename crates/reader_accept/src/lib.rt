@@ -67,31 +67,29 @@ fn decipher_into(hash: &[u8], response: &[u8], work: &mut [u8])
     cbc::decipher_under(hash, &rows, [0u8; 16], &mut work[..n], 0);
 }
 
-// The body's length in a text of t bytes that ends with DivData; 0: not authenticated.
-fn body_length(s: &[u8], t: usize, div: [u8; 16]) -> usize
+// The body's length in a text of t bytes that ends with DivData; None: not authenticated.
+fn body_length(s: &[u8], t: usize, div: [u8; 16]) -> Option<usize>
     requires { t ≤ length s.now }
-    ensures { result ≡ cond (right_body s.now t div) (t - 16) 0 }
+    ensures { result ≡ cond (right_body s.now t div) (Some (t - 16)) None }
 {
     if t < 17 {
-        return 0;
+        return None;
     }
     if 80 < t {
-        return 0;
+        return None;
     }
     if octets::equal(octets::part_of(s, t - 16, 16), &div) {
-        return t - 16;
+        return Some(t - 16);
     }
-    0
+    None
 }
 
 // The same of whole blocks with their padding.
-fn judged(s: &[u8], div: [u8; 16]) -> usize
-    ensures { result ≡ cond (authenticated s.now div) (body_length s.now) 0 }
+fn judged(s: &[u8], div: [u8; 16]) -> Option<usize>
+    ensures { result ≡ cond (authenticated s.now div) (Some (body_length s.now)) None }
 {
-    match padding::unpad(s) {
-        Some(t) => body_length(s, t, div),
-        None => 0,
-    }
+    let t = padding::unpad(s)?;
+    body_length(s, t, div)
 }
 
 // A body of so many bytes has a record of len bytes.
@@ -127,7 +125,8 @@ fn accepted_length(
     let bytes = keys_hash.bytes;
     let hash = &bytes[..l];
     decipher_into(hash, response, work);
-    let body = judged(&work[..n], div_data);
+    // In a body of 0 bytes there is no record.
+    let body = judged(&work[..n], div_data).unwrap_or(0);
     if !has_record(record_length, body) {
         clear(work, n);
         return Err(Refusal::Authentication);

@@ -71,6 +71,7 @@ fn first(l: usize, ids: [KeySetId; Reader::IDS], n: usize, blocks: &[u8]) -> usi
     requires { (l ≤ 32) × (n ≤ 16) × (length blocks.now ≡ 256 * n) }
     ensures { result ≡ winner l ids n blocks.now }
 {
+    // n while none has opened, so that each block takes the same step.
     let mut at = n;
     let listed = &ids[..n];
     // The blocks go by place: std has no law for a zip with chunks.

@@ -5,6 +5,7 @@ use lib.ListN.{length}
 use lib.Seq.{length-take-le}
 use Rattle.key_expansion.specs.KeyLength.{is_key_length, length_most}
 use Rattle.reader_accept.proofs.Cases.{some-number, seen, not-deciphered, text-refused, text-accepted}
+use Rattle.reader_accept.proofs.Tests.{length-judged}
 use Rattle.std.proofs.Common.{rules}
 use Rattle.std.proofs.lemmas.Result.{err_from_is_err_and}
 use Rattle.reader_accept.proofs.accepted_length.Goals as goal
@@ -48,7 +49,7 @@ returns-then-not-has_record c =
     let all = text-refused a.l a.keys_hash a.div_data a.record_length a.response.now a.work.now
     c.in_ok-fault.ensures
     c.decipher_into.ensures
-    c.judged-body.ensures
+    (length-judged _ _ c.judged.ensures c.unwrap_or-body.ensures)
     c.has_record.ensures
     c.if-not-has_record.true
     c.clear.ensures in
@@ -60,7 +61,7 @@ returns c =
     let all = text-accepted a.l a.keys_hash a.div_data a.record_length a.response.now a.work.now
     c.in_ok-fault.ensures
     c.decipher_into.ensures
-    c.judged-body.ensures
+    (length-judged _ _ c.judged.ensures c.unwrap_or-body.ensures)
     c.has_record.ensures
     c.if-not-has_record.false in
     record { told = all.0; len = refl; bytes = all.1 }

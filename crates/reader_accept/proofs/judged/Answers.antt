@@ -6,10 +6,10 @@ use Rattle.reader_accept.proofs.Tests.{judged-text, judged-malformed}
 use Rattle.reader_accept.proofs.judged.Goals as goal
 
 pub body_length-requires : goal.body_length-requires
-body_length-requires c = omega (arith, unpadded-lt _ _ (sym c.in-Some.ensures))
+body_length-requires c = omega (arith, unpadded-lt _ _ (sym c.in_ok-t.ensures))
 
-pub returns-in-Some : goal.returns-in-Some
-returns-in-Some c = c.body_length.ensures ∙ judged-text _ _ _ (c.in-Some.ensures)
+pub returns : goal.returns
+returns c = c.body_length.ensures ∙ judged-text _ _ _ c.in_ok-t.ensures
 
-pub returns-in-None : goal.returns-in-None
-returns-in-None c = judged-malformed _ _ (c.in-None.ensures)
+pub returns-in_err-t : goal.returns-in_err-t
+returns-in_err-t c = let k = c.in_err-t.ensures in c.from_residual.ensures ∙ judged-malformed _ _ k
