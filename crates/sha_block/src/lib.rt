@@ -55,7 +55,7 @@ fn next_word(w: &[u32; 64], n: usize) -> u32
     )
 }
 
-// The message schedule, all 64 words. The compiler unrolls the inner loop: one loop over 48 words takes some 140
+// The message schedule, all 64 words. The compiler unrolls the inner loop: one loop over 48 words takes some 150
 // instructions a block more.
 fn full_schedule(b: &[u8; 64]) -> [u32; 64]
     ensures { result ≡ schedule (block_words b.now) 48 }

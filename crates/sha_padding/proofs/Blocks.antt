@@ -1,5 +1,5 @@
--- The blocks of the padded message as the code makes them: bytes of the message, the byte 0x80, zeros, and the length in bits written over the
--- last eight bytes. Assumes nothing.
+-- The blocks of the padded message as the code makes them: bytes of the message, the byte 0x80, zeros, and the length
+-- in bits written over the last eight bytes. Assumes nothing.
 use Rattle.std.specs.Int.{to_be_bytes}
 use Rattle.std.proofs.Common.{◌≡◌, refl, sym, ap, ◌∙◌, List, [], ◌∷◌, ◌++◌, ⊎_elim, ℕ, zero, suc, ◌+◌, ◌-◌, ◌*◌, ◌/◌, ◌%◌, ◌^◌, ◌<◌, ◌≤◌, w64, arith, length, get_or, take, drop, set, replicate, append_assoc, length-append, length-drop, length-take-le, get_or-take, get_or-drop}
 use Rattle.std.proofs.Math.ListN.{get_or-append}

@@ -35,7 +35,8 @@ fn front(part: &[u8]) -> [u8; 64]
     b
 }
 
-// The block in which the message ends: what is left of it, the byte 0x80, and the length if eight bytes are free after that.
+// The block in which the message ends: what is left of it, the byte 0x80, and the length if eight bytes are free
+// after that.
 fn ending(m: &[u8]) -> [u8; 64]
     ensures { result ≡ block_at m.now (length m.now / 64) }
 {

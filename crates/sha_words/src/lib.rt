@@ -12,9 +12,9 @@ pub fn add(a: u32, b: u32) -> u32
     a.wrapping_add(b)
 }
 
-// The six functions of section 4.1.2, in forms that take fewer instructions: a rotation of a sum is the sum of the rotations.
-// Each pair of sigmas differs in constants alone. FIPS 180-4 gives each a name and a number of its own, so each is a function:
-// a function over the three constants would be no shorter than these bodies of one line.
+// The six functions of section 4.1.2, in forms that take fewer instructions: a rotation of a sum is the sum of the
+// rotations. Each pair of sigmas differs in constants alone. FIPS 180-4 gives each a name and a number of its own, so
+// each is a function: one over three constants is no plainer than these bodies of one line.
 pub fn upper_sigma0(x: u32) -> u32
     ensures { result ≡ upper_sigma0 x }
 {

@@ -1,4 +1,5 @@
--- `sha256::to_bytes` meets its contract. The loop's invariant: the first 4 i bytes are those of the first i words. Assumes nothing.
+-- `sha256::to_bytes` meets its contract. The loop's invariant: the first 4 i bytes are those of the first i words.
+-- Assumes nothing.
 use Rattle.std.proofs.Common.{◌≡◌, List, [], ◌++◌, ℕ, zero, suc, ◌*◌, length, get_or, take}
 use Rattle.sha_words.specs.Words.{word_bytes}
 use Rattle.sha256.proofs.to_bytes.Given as goal

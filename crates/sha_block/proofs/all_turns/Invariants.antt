@@ -1,4 +1,5 @@
--- `sha_block::all_turns` meets its contract. The loops' invariants: v is what 8 n turns, and what 8 n + j, made of h. Assumes nothing.
+-- `sha_block::all_turns` meets its contract. The loops' invariants: v is what 8 n turns, and what 8 n + j, made of h.
+-- Assumes nothing.
 use Rattle.std.proofs.Common.{◌≡◌, ◌+◌, ◌*◌}
 use Rattle.sha_block.specs.Constants.{constants}
 use Rattle.sha_block.specs.Hash.{turns}

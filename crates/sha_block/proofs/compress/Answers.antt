@@ -1,4 +1,5 @@
--- `sha_block::compress` meets its contract: the schedule goes into the turns, and what they give is added word by word. Assumes nothing.
+-- `sha_block::compress` meets its contract: the schedule goes into the turns, and what they give is added word by word.
+-- Assumes nothing.
 use Rattle.std.proofs.Common.{◌≡◌, ◌∙◌, ap, List, ℕ, ◌<◌, get_or, rules}
 use Rattle.std.proofs.lemmas.List.FromFn.{fill_by_all}
 use Rattle.sha_words.specs.Words.{plus}

@@ -1,4 +1,5 @@
--- `sha_block::full_schedule` meets its contract: each turn of the inner loop puts one word more after those of the schedule. Assumes nothing.
+-- `sha_block::full_schedule` meets its contract: each turn of the inner loop puts one word more after those of the
+-- schedule. Assumes nothing.
 use Rattle.std.proofs.Common.{◌≡◌, sym, ap, ap₂, ◌∙◌, List, [], ◌∷◌, ◌++◌, ℕ, suc, ◌+◌, ◌*◌, ◌<◌, get_or, take, set, length-set, get_or-take, arith, rules}
 use Rattle.std.proofs.Math.Seq.{take-suc-set, take_all}
 use Rattle.sha_block.specs.Hash.{next_word, schedule}

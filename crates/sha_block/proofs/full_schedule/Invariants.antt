@@ -1,5 +1,5 @@
--- `sha_block::full_schedule` meets its contract. The loops' invariants: the first 8 i + 16 words, and 8 i + j + 16, are the schedule's.
--- Assumes nothing.
+-- `sha_block::full_schedule` meets its contract. The loops' invariants: the first 8 i + 16 words, and 8 i + j + 16, are
+-- the schedule's. Assumes nothing.
 use Rattle.std.proofs.Common.{◌≡◌, List, ℕ, ◌+◌, ◌*◌, length, take}
 use Rattle.sha_padding.specs.Parsing.{block_words}
 use Rattle.sha_block.specs.Hash.{schedule}

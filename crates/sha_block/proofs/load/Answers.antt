@@ -1,4 +1,5 @@
--- `sha_block::load` meets its contract: after the loop the first sixteen places hold the block's words. Assumes nothing.
+-- `sha_block::load` meets its contract: after the loop the first sixteen places hold the block's words. Assumes
+-- nothing.
 use Rattle.std.proofs.Common.{◌≡◌, ◌∙◌, length, take, length-take-le, get_or-take, arith}
 use Rattle.octets.specs.Lists.{tabled}
 use Rattle.sha_padding.specs.Parsing.{block_word, block_words}

@@ -1,4 +1,5 @@
--- `sha_block::load` meets its contract. The loop's invariant: the first i places hold the block's words. Assumes nothing.
+-- `sha_block::load` meets its contract. The loop's invariant: the first i places hold the block's words. Assumes
+-- nothing.
 use Rattle.std.proofs.Common.{◌≡◌, length}
 use Rattle.octets.specs.Filled.{Filled}
 use Rattle.sha_padding.specs.Parsing.{block_word}

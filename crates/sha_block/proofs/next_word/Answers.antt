@@ -1,5 +1,5 @@
--- `sha_block::next_word` meets its contract: each call's result goes into the next sum. A check finds this by itself, but says less of a wrong
--- index. Assumes nothing.
+-- `sha_block::next_word` meets its contract: each call's result goes into the next sum. A check finds this by itself,
+-- but says less of a wrong index. Assumes nothing.
 use Rattle.std.proofs.Common.{refl}
 use Rattle.sha_block.proofs.next_word.Goals as goal
 

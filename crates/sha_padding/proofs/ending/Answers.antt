@@ -1,5 +1,5 @@
--- `sha_padding::ending` meets its contract: the block that the message ends in is the last, if eight bytes are free after 0x80, and else
--- the last but one. Assumes nothing.
+-- `sha_padding::ending` meets its contract: the block that the message ends in is the last, if eight bytes are free
+-- after 0x80, and else the last but one. Assumes nothing.
 use Rattle.std.proofs.Common.{◌≡◌, List, ℕ, ◌+◌, ◌*◌, ◌/◌, ◌%◌, length, get_or, take, drop, set, replicate, arith}
 use Rattle.octets.specs.Filled.{Filled}
 use Rattle.sha_padding.specs.PaddingLaws.{blocks-count}
@@ -18,8 +18,9 @@ ended m at n e f q =
 pub returns-then-rest-lt56 : goal.returns-then-rest-lt56
 returns-then-rest-lt56 c =
     let m = c.args.m.now in
+    let i : ℕ = length m / 64 in
     let begun = ended m _ _ (omega arith) (omega arith) c.front-b.ensures in
-    block_last m (length m / 64) (length m % 64 + 1) (omega arith) (omega (arith, blocks-count m)) begun c.put_length.ensures
+    block_last m i (length m % 64 + 1) (omega arith) (omega (arith, blocks-count m)) begun c.put_length.ensures
 
 pub returns : goal.returns
 returns c =

@@ -1,5 +1,5 @@
--- `sha_padding::padded_block` meets its contract: block i is of the message, or the one that it ends in, or the last with the length alone, or past
--- the last. Assumes nothing.
+-- `sha_padding::padded_block` meets its contract: block i is of the message, or the one that it ends in, or the last
+-- with the length alone, or past the last. Assumes nothing.
 use Rattle.std.proofs.Common.{ap, sym, ◌∙◌, refl, arith}
 use Rattle.octets.specs.Filled.{filled_none}
 use Rattle.sha_padding.specs.Parsing.{block_at}

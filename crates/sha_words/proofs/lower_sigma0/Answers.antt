@@ -9,4 +9,5 @@ pub returns : goal.returns
 unfolding sigma0
 returns c =
     let x = c.args.x in
-    ap (λ (t : ℕ). bit_xor t (shr 3 x)) (two-turns 7 11 x (search rules) c.rotate_right.ensures c.rotate_right-2.ensures (search rules))
+    let e = two-turns 7 11 x (search rules) c.rotate_right.ensures c.rotate_right-2.ensures (search rules) in
+    ap (λ (t : ℕ). bit_xor t (shr 3 x)) e

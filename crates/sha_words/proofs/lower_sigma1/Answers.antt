@@ -9,4 +9,5 @@ pub returns : goal.returns
 unfolding sigma1
 returns c =
     let x = c.args.x in
-    ap (λ (t : ℕ). bit_xor t (shr 10 x)) (two-turns 17 2 x (search rules) c.rotate_right.ensures c.rotate_right-2.ensures (search rules))
+    let e = two-turns 17 2 x (search rules) c.rotate_right.ensures c.rotate_right-2.ensures (search rules) in
+    ap (λ (t : ℕ). bit_xor t (shr 10 x)) e
