@@ -44,7 +44,7 @@ fn ending(m: &[u8]) -> [u8; 64]
     let rest = n % 64;
     let mut b = front(&m[n - rest..]);
     b[rest] = 0x80;
-    if rest < 56 {
+    if rest + 8 < 64 {
         return put_length(b, n);
     }
     b

@@ -15,8 +15,8 @@ ended m at n e f q =
     let k : ℕ = length m % 64 in
     marked m i k _ (omega arith) (omega arith) (begun m i k at n e f (omega arith) q)
 
-pub returns-then-rest-lt56 : goal.returns-then-rest-lt56
-returns-then-rest-lt56 c =
+pub returns-then-rest-lt64 : goal.returns-then-rest-lt64
+returns-then-rest-lt64 c =
     let m = c.args.m.now in
     let i : ℕ = length m / 64 in
     let begun = ended m _ _ (omega arith) (omega arith) c.front-b.ensures in
