@@ -8,15 +8,13 @@ ghost use Rattle.reader_list.specs.List.{listed, list_output};
 ghost use Rattle.reader_open.specs.Open.{opened};
 ghost use Rattle.reader_seal.specs.Seal.{sealed_of, seal_output};
 ghost use Rattle.reader_accept.specs.Accept.{accepted_of, work_after};
-ghost use Rattle.load.specs.Load.{loaded};
-ghost use Rattle.key_change.specs.KeyChange.{changed, sets_loaded};
+ghost use Rattle.key_change.specs.KeyChange.{sets_loaded};
 ghost use Rattle.conversion.specs.Conversion.{converted, output_after};
 ghost use Rattle.wiegand.specs.Wiegand as wiegand;
 ghost use Rattle.uuids.specs.Uuid as uuid;
 ghost use Rattle.plaid.specs.Interface.{load_of, record_at};
 
 use conversion::Converted;
-use key_set_list::Eight;
 use load::Loaded;
 use plaid_types::{Card, KeySet, KeySetId, Mode, OpModeId, Outcome, Reader, Tries, Value};
 use reader_accept::Accepted;
@@ -24,7 +22,7 @@ use reader_list::Written;
 use reader_open::Opened;
 use reader_seal::Sealed;
 
-// What a load is given beside the key sets and the record area. What stands past the count is not looked at.
+// What a load is given with the key sets and the record area. What is past the count is not looked at.
 #[repr(C)]
 #[derive(Clone, Copy)]
 pub struct Given {
@@ -36,41 +34,23 @@ pub struct Given {
     pub shill_handle: u8,
 }
 
-// A load of the first eight key sets of a list of so many: what follows is covered, and sees no lent structs.
-fn load_eight(of: Eight, given: Given, area: &[u8]) -> Loaded
-    ensures { result ≡ loaded given.key_length of.sets of.count given.modes given.mode_count area.now given.div_data given.shill_key given.shill_handle }
-{
-    let sets = of.sets;
-    let modes = given.modes;
-    let div_data = given.div_data;
-    let shill_key = given.shill_key;
-    load::load(
-        given.key_length,
-        sets,
-        of.count,
-        modes,
-        given.mode_count,
-        area,
-        div_data,
-        shill_key,
-        given.shill_handle,
-    )
-}
-
 // The key sets come in the caller's list, lent.
 #[unsafe(no_mangle)]
 pub extern "C" fn plaid_load(sets: &[KeySet], given: Given, area: &[u8]) -> Loaded
     ensures { result ≡ load_of sets.now given area.now }
 {
     let of = key_set_list::first_eight(sets);
-    load_eight(of, given, area)
-}
-
-fn change_eight(of: Eight, card: Card) -> Loaded
-    ensures { result ≡ changed card of.sets of.count }
-{
-    let sets = of.sets;
-    key_change::change(card, sets, of.count)
+    load::load(
+        given.key_length,
+        of.sets,
+        of.count,
+        given.modes,
+        given.mode_count,
+        area,
+        given.div_data,
+        given.shill_key,
+        given.shill_handle,
+    )
 }
 
 // A load of key sets onto a card (T-07), from the caller's list, lent.
@@ -79,7 +59,7 @@ pub extern "C" fn plaid_load_sets(sets: &[KeySet], card: Card) -> Loaded
     ensures { result ≡ sets_loaded card sets.now }
 {
     let of = key_set_list::first_eight(sets);
-    change_eight(of, card)
+    key_change::change(card, of.sets, of.count)
 }
 
 #[unsafe(no_mangle)]
@@ -101,8 +81,7 @@ pub extern "C" fn plaid_command(
 pub extern "C" fn plaid_read_tries(card: Card) -> Tries
     ensures { result ≡ card.tries }
 {
-    let tries = card::read_tries(card);
-    tries
+    card::read_tries(card)
 }
 
 // The reader's KeySetIDs in order of preference: the first so many.
@@ -118,19 +97,17 @@ pub extern "C" fn plaid_list(of: Ids, out: &mut [u8]) -> Written
     ensures told { result ≡ listed of.ids of.count (length out.old) }
     ensures bytes { out.new ≡ list_output of.ids of.count out.old }
 {
-    let ids = of.ids;
-    reader_list::list(ids, of.count, out)
+    reader_list::list(of.ids, of.count, out)
 }
 
 #[unsafe(no_mangle)]
 pub extern "C" fn plaid_open(key_length: usize, of: Ids, blocks: &[u8]) -> Opened
     ensures { result ≡ opened key_length of.ids of.count blocks.now }
 {
-    let ids = of.ids;
-    reader_open::open(key_length, ids, of.count, blocks)
+    reader_open::open(key_length, of.ids, of.count, blocks)
 }
 
-// What Seal is given beside the payload.
+// What Seal is given with the payload.
 #[repr(C)]
 #[derive(Clone, Copy)]
 pub struct Sealing {
@@ -147,24 +124,19 @@ pub extern "C" fn plaid_seal(of: Sealing, payload: &[u8], out: &mut [u8]) -> Sea
     ensures told { result ≡ sealed_of of.key_length of.fa_key of.div_data of.rnd1 of.rnd2 of.mode payload.now (length out.old) }
     ensures bytes { out.new ≡ seal_output of.key_length of.fa_key of.div_data of.rnd1 of.rnd2 of.mode payload.now out.old }
 {
-    let fa_key = of.fa_key;
-    let div_data = of.div_data;
-    let rnd1 = of.rnd1;
-    let rnd2 = of.rnd2;
-    let mode = of.mode;
     reader_seal::seal(
         of.key_length,
-        fa_key,
-        div_data,
-        rnd1,
-        rnd2,
-        mode,
+        of.fa_key,
+        of.div_data,
+        of.rnd1,
+        of.rnd2,
+        of.mode,
         payload,
         out,
     )
 }
 
-// What Accept is given beside the response.
+// What Accept is given with the response.
 #[repr(C)]
 #[derive(Clone, Copy)]
 pub struct Accepting {
@@ -179,12 +151,10 @@ pub extern "C" fn plaid_accept(of: Accepting, response: &[u8], work: &mut [u8]) 
     ensures told { result ≡ accepted_of of.key_length of.keys_hash of.div_data of.record_length response.now (length work.old) }
     ensures bytes { work.new ≡ work_after of.key_length of.keys_hash of.div_data of.record_length response.now work.old }
 {
-    let keys_hash = of.keys_hash;
-    let div_data = of.div_data;
     reader_accept::accept_in(
         of.key_length,
-        keys_hash,
-        div_data,
+        of.keys_hash,
+        of.div_data,
         of.record_length,
         response,
         work,
@@ -199,7 +169,7 @@ pub struct Part {
     pub length: usize,
 }
 
-// The record, a part of the work buffer that Accept left. An exported function returns no reference, so it says where the part stands.
+// The record, a part of the work buffer that Accept left. An exported function returns no reference, so it says where the part is.
 #[unsafe(no_mangle)]
 pub extern "C" fn plaid_record(work: &[u8], of: Accepted) -> Part
     ensures { result ≡ record_at work.now of }

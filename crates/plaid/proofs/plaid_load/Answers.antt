@@ -9,6 +9,6 @@ pub returns : goal.returns
 returns c =
     let g = c.args.given in
     let area = c.args.area.now in
-    c.load_eight.ensures
+    c.load.ensures
     ∙ ap (λ (e : Eight). loaded g.key_length e.sets e.count g.modes g.mode_count area g.div_data g.shill_key g.shill_handle) c.first_eight-of.ensures
     ∙ load-first c.args.sets.now g area

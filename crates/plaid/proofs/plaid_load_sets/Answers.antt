@@ -8,6 +8,6 @@ use Rattle.plaid.proofs.plaid_load_sets.Goals as goal
 pub returns : goal.returns
 returns c =
     let card = c.args.card in
-    c.change_eight.ensures
+    c.change.ensures
     ∙ ap (λ (e : Eight). changed card e.sets e.count) c.first_eight-of.ensures
     ∙ change-first card c.args.sets.now
