@@ -1,5 +1,5 @@
 -- `no_zero` meets its contract: the fold over what is left is the definition's. Assumes nothing.
-use Rattle.std.proofs.Common.{◌≡◌, refl, Bool, true, false, ◌&&◌, not, List, [], ◌∷◌, ℕ, eqb, fold, drop, rules, tests, ◌∙◌}
+use Rattle.std.proofs.Common.{◌≡◌, refl, Bool, true, false, ◌&&◌, not, List, [], ◌∷◌, ℕ, eqb, fold, drop, rules, ◌∙◌}
 use Rattle.std.proofs.lemmas.Iterator.{YieldsList-from_slice}
 use Rattle.std.proofs.lemmas.Iterator.Consumers.{fold_from_yields_List}
 use Rattle.std.proofs.lemmas.Iterator.Adapters.{YieldsList-from_skip}
@@ -17,5 +17,5 @@ folded false (b ∷ bs) = folded false bs
 
 pub returns : goal.returns
 returns c =
-    fold_from_yields_List _ also true _ c.fold.ensures.ran (YieldsList-from_skip c.args.from (YieldsList-from_slice c.args.s.now cc) cc) (λ a x b q k. search (rules, tests))
+    fold_from_yields_List _ also true _ c.fold.ensures.ran (YieldsList-from_skip c.args.from (YieldsList-from_slice c.args.s.now cc) cc) (λ a x b q k. (search rules, search rules))
     ∙ folded true (drop c.args.from c.args.s.now)
