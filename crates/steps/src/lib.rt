@@ -21,6 +21,7 @@ ghost use Rattle.steps.specs.Made.{
 };
 
 use plaid_types::{KeySetId, OpModeId};
+use work::Kind;
 
 #[derive(Clone, Copy)]
 pub struct Expanded {
@@ -43,7 +44,7 @@ pub fn expand(table: &[u8; 256], key: &[u8], sum: u32) -> Expanded
 {
     let rows = key_expansion::expand(table, key);
     let n = key.len() / 4 + 7;
-    let a = work::mix(sum, 4);
+    let a = work::mix(sum, Kind::Expansion.number());
     let b = work::mix_all(a, key);
     let c = work::mix_rows(b, &rows[..n]);
     let count = 1;
@@ -72,7 +73,7 @@ pub fn hash(m: &[u8], sum: u32) -> Hashing
         let b = sha_padding::padded_block(m, i);
         let x = sha_block::compress(h, &b);
         let o = sha256::to_bytes(x);
-        s = work::mix_step(s, 5, &[], &b, &o);
+        s = work::mix_step(s, Kind::HashBlock.number(), &[], &b, &o);
         h = x;
     }
     Hashing {
@@ -107,7 +108,7 @@ fn compare(present: bool, v: u16, held: bool, w: u16, sum: u32) -> Compared
     ensures { result ≡ record { hit = matched present v held w; count = counted comparison (comparison_step present v held w ∷ []); sum = sum_from sum (comparison_step present v held w ∷ []) } }
 {
     let hit = matches(present, v, held, w);
-    let a = work::mix(sum, 1);
+    let a = work::mix(sum, Kind::Comparison.number());
     let b = mix_shown(a, present, v);
     let c = mix_shown(b, held, w);
     let d = work::mix(c, u8::from(hit));

@@ -18,6 +18,7 @@ returns c =
       c.mix_shown-c.ensures,
       c.mix_shown-b.ensures,
       c.mix-a.ensures,
+      c.number.ensures,
       c.matches-hit.ensures,
       mixed_all-append,
     )

@@ -34,7 +34,7 @@ loop-i-preserved c =
     let x = state-turn m l.i l.invariant.1 c.padded_block-b.ensures c.compress-x.ensures in (
       l.invariant.0,
       x ∙ ap (state_after m) (sym (add-one l.i)),
-      sum-turn m l.i l.invariant.1 c.padded_block-b.ensures c.compress-x.ensures _ _ _ _ [] _ c.loop-i-test.true refl c.to_bytes-o.ensures c.mix_step-s.ensures l.invariant.2,
+      sum-turn m l.i l.invariant.1 c.padded_block-b.ensures c.compress-x.ensures _ _ _ _ [] _ c.loop-i-test.true refl c.to_bytes-o.ensures (rw c.number.ensures at c.mix_step-s.ensures) l.invariant.2,
     )
 
 pub returns : goal.returns
