@@ -12,9 +12,10 @@ use Rattle.plaid_types.specs.Tries.{is_interface}
 use Rattle.frame.specs.Frame.{frame_of, cla_of, ins_of, p1_of, p2_of, lc_of, le_of, known_ins, whole, status_of, data_of}
 use Rattle.refusals.specs.declared.Refusal.{Refusal}
 use Rattle.frame.specs.declared.Fault.{Fault}
+use Rattle.frame.specs.declared.Fault.TheVariants.{WrongLength, WrongClass, WrongInstruction, WrongParameters}
 use Rattle.frame.specs.declared.Decline.{Decline}
 use Rattle.frame.specs.declared.Decline.TheVariants as decline
-use Rattle.frame.specs.Told.{FromNumber, FromFault, decline_told, verdict_told}
+use Rattle.frame.specs.Told.{fault_status, FromNumber, FromFault, decline_told, verdict_told}
 use Rattle.frame.specs.Declines.{Verdict, no_zero, pad_bytes, verdict}
 
 -- fewer than six bytes are the frame
@@ -121,6 +122,21 @@ told-number (Err d) r h = ap decline_told h
 pub told-fault : {A : Type 0} (o : Result A Decline) (s : Fault) → IsErrAnd o (FromFault s) → verdict_told o ≡ decline_told (decline.Status s)
 told-fault (Ok x) s h = absurd h
 told-fault (Err d) s h = ap decline_told h
+
+-- the status is 9000 where nothing is declined, and there alone
+pub told-ok : {A : Type 0} (o : Result A Decline) → ((d : Decline) → o ≡ Err d → ⊥) → (verdict_told o).status ≡ 0x9000
+told-ok (Ok x) h = refl
+told-ok (Err d) h = absurd (h d refl)
+
+fault-not : (s : Fault) → fault_status s ≡ 0x9000 → ⊥
+fault-not WrongLength e = omega arith
+fault-not WrongClass e = omega arith
+fault-not WrongInstruction e = omega arith
+fault-not WrongParameters e = omega arith
+
+pub told-err : (d : Decline) → (decline_told d).status ≡ 0x9000 → ⊥
+told-err (decline.Number r) e = omega arith
+told-err (decline.Status s) e = fault-not s e
 
 -- the verdict, by the tests that led there
 module _ (i l n : ℕ) (f fresh : List ℕ) (room : ℕ) where
