@@ -1,7 +1,7 @@
 -- What a call tells, with the session after it and whether it was a refused final command: all of its outcome but the rest of the card; after a
 -- decline; and after an initial and after a final command, from what those tell of their reply. Assumes nothing.
 use Rattle.std.specs.Prelude.{Bool, false, ◌&&◌, not, List, ℕ, eqb}
-use Rattle.frame.specs.declared.Verdict.{Verdict}
+use Rattle.frame.specs.Declines.{Verdict}
 use Rattle.plaid_types.specs.Keys.{key_length_of}
 use Rattle.plaid_types.specs.Cards.{no_session}
 use Rattle.plaid_types.specs.declared.Session.{Session}

@@ -2,8 +2,7 @@
 use Rattle.std.specs.Prelude.{Bool, cond, ◌&&◌, not, List, [], ℕ, eqb, length}
 use Rattle.work.specs.Steps.{comparison, decipherment, encipherment, expansion, hash_block, counted, work_sum}
 use Rattle.frame.specs.Frame.{frame_of, ins_of, initial_ins, data_of}
-use Rattle.frame.specs.Declines.{verdict}
-use Rattle.frame.specs.declared.Verdict.{Verdict}
+use Rattle.frame.specs.Declines.{Verdict, verdict}
 use Rattle.initial.specs.Initial.{initial_reply}
 use Rattle.final_command.specs.Final.{accepts_final, final_reply}
 use Rattle.plaid_types.specs.Keys.{key_length_of}

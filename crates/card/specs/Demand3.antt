@@ -11,7 +11,7 @@ use Rattle.std.proofs.lemmas.List.{get_or_at}
 use Rattle.work.specs.Steps.{comparison, decipherment, encipherment, expansion, hash_block, work_sum}
 use Rattle.frame.specs.Frame.{frame_of, ins_of, lc_of, initial_ins, data_of}
 use Rattle.frame.specs.Laws.{passed, data-long}
-use Rattle.frame.specs.declared.Verdict.{Verdict}
+use Rattle.frame.specs.Declines.{Verdict}
 use Rattle.initial.specs.Initial.{initial_steps, slot_of, accepts_initial, refused_initial, initial_reply, block_of}
 use Rattle.initial.proofs.Laws.{initial-counted, initial-length, initial-rnd1, initial-key}
 use Rattle.octets.specs.Lists.{part, over}

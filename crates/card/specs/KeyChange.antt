@@ -5,7 +5,7 @@ use Rattle.std.proofs.Math.Path.{refl, ap}
 use Rattle.std.proofs.Common.{◌∙◌}
 use Rattle.std.proofs.Math.Bool.{cond, not}
 use Rattle.frame.specs.Frame.{frame_of, ins_of, initial_ins, data_of}
-use Rattle.frame.specs.declared.Verdict.{Verdict}
+use Rattle.frame.specs.Declines.{Verdict}
 use Rattle.plaid_types.specs.Keys.{key_length_of}
 use Rattle.plaid_types.specs.Tries.{tries_after}
 use Rattle.plaid_types.specs.Cards.{Reply, with_sets}

@@ -4,8 +4,7 @@ use Rattle.std.proofs.Math.Option
 use Rattle.std.proofs.Math.Option.{Option, some as answered, none as unanswered}
 use Rattle.work.specs.Steps.{Step}
 use Rattle.frame.specs.Frame.{frame_of, ins_of, lc_of, initial_ins, data_of}
-use Rattle.frame.specs.Declines.{verdict}
-use Rattle.frame.specs.declared.Verdict.{Verdict}
+use Rattle.frame.specs.Declines.{Verdict, verdict}
 use Rattle.initial.specs.Initial.{accepts_initial, initial_reply}
 use Rattle.final_command.specs.Final.{accepts_final}
 use Rattle.plaid_types.specs.Keys.{key_length_of}

@@ -6,7 +6,7 @@ use Rattle.std.proofs.Math.Bool.{cond}
 use Rattle.std.proofs.Math.Option.{Option, some as answered, map}
 use Rattle.work.specs.Steps.{work_sum}
 use Rattle.frame.specs.Frame.{data_of}
-use Rattle.frame.specs.declared.Verdict.{Verdict}
+use Rattle.frame.specs.Declines.{Verdict}
 use Rattle.plaid_types.specs.Keys.{key_length_of}
 use Rattle.plaid_types.specs.Tries.{is_interface, holding, one_more, tries_after, tries_on}
 use Rattle.plaid_types.specs.TriesLaws.{holding-small, holding-more, holding-most, count-after}

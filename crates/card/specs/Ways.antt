@@ -10,7 +10,7 @@ use Rattle.octets.specs.Lists.{over, over_none}
 use Rattle.work.specs.Steps.{comparison, decipherment, encipherment, expansion, hash_block, counted}
 use Rattle.frame.specs.Frame.{frame_of, ins_of, data_of}
 use Rattle.frame.specs.Laws.{command-ins}
-use Rattle.frame.specs.declared.Verdict.{Verdict}
+use Rattle.frame.specs.Declines.{Verdict}
 use Rattle.initial.specs.Initial.{initial_reply}
 use Rattle.initial.specs.Told.{told_initial}
 use Rattle.initial.proofs.Laws.{initial-counted}

@@ -4,15 +4,16 @@
 ghost use Rattle.std.specs.Prelude.{◌≡◌, ◌-◌, ◌≤◌, length};
 ghost use Rattle.octets.specs.Lists.{over};
 ghost use Rattle.frame.specs.Frame.{data_of};
+ghost use Rattle.frame.specs.Told.{decline_told};
 ghost use Rattle.card.specs.Command.{outcome, answer_bytes};
 ghost use Rattle.card.specs.After.{refused_try, told_of, after_decline, after_initial, after_final};
 
 use final_command::Final;
-use frame::Verdict;
+use frame::Decline;
 use initial::Initial;
 use plaid_types::{Answer, Card, Outcome, Session, Tries};
 
-// What a command call hands back, and of the card only the session, and whether it was a refused final command: `command` copies the card, and
+// What a command call returns, and of the card only the session, and whether it was a refused final command: `command` copies the card, and
 // the other functions do not.
 #[derive(Clone, Copy)]
 struct Told {
@@ -23,23 +24,21 @@ struct Told {
 }
 
 // A decline: no steps, and the session as it was. It is not counted.
-fn decline(session: Session, v: Verdict) -> Told
-    ensures { result ≡ after_decline session v }
+fn decline(session: Session, d: Decline) -> Told
+    ensures { result ≡ after_decline session (decline_told d) }
 {
+    let (number, status) = match d {
+        Decline::Number(r) => (r.number(), 0),
+        Decline::Status(f) => (0, f.status()),
+    };
     Told {
         answer: Answer {
-            number: v.number,
-            status: v.status,
-            comparisons: 0,
-            decipherments: 0,
-            encipherments: 0,
-            expansions: 0,
-            hash_blocks: 0,
-            length: 0,
-            handle: 0,
+            number,
+            status,
+            ..Answer::default()
         },
         sum: 0,
-        session: session,
+        session,
         refused: false,
     }
 }
@@ -52,19 +51,15 @@ fn after_initial(r: Initial) -> Told
     let refused = false;
     Told {
         answer: Answer {
-            number: 0,
             status: Answer::OK,
             comparisons: r.comparisons,
-            decipherments: 0,
-            encipherments: 0,
-            expansions: 0,
-            hash_blocks: 0,
             length: r.length,
             handle: r.handle,
+            ..Answer::default()
         },
         sum: r.sum,
-        session: session,
-        refused: refused,
+        session,
+        refused,
     }
 }
 
@@ -75,7 +70,6 @@ fn after_final(r: Final) -> Told
     let accepted = r.accepted;
     Told {
         answer: Answer {
-            number: 0,
             status: Answer::OK,
             comparisons: r.comparisons,
             decipherments: r.decipherments,
@@ -83,7 +77,7 @@ fn after_final(r: Final) -> Told
             expansions: r.expansions,
             hash_blocks: r.hash_blocks,
             length: r.length,
-            handle: 0,
+            ..Answer::default()
         },
         sum: r.sum,
         session: Session::none(),
@@ -106,19 +100,14 @@ fn tell(card: Card, interface: usize, cmd: &[u8], fresh: &[u8], out: &mut [u8]) 
     ensures out_after { out.new ≡ over out.old 0 (answer_bytes card interface cmd.now fresh.now (length out.old)) }
 {
     let l = plaid_types::lawful(card.key_length);
-    let v = frame::check(interface, l, cmd, fresh, out.len());
-    let status = v.status;
-    if status != Answer::OK {
-        let was = card.session;
-        return decline(was, v);
+    if let Err(d) = frame::check(interface, l, cmd, fresh, out.len()) {
+        return decline(card.session, d);
     }
     let d = data_of(cmd);
     if cmd[1] == 0x87 {
-        let r = initial::run(card, d, fresh, out);
-        return after_initial(r);
+        return after_initial(initial::run(card, d, fresh, out));
     }
-    let r = final_command::run(card, d, fresh, out);
-    after_final(r)
+    after_final(final_command::run(card, d, fresh, out))
 }
 
 // The one place that copies the card, of which a command changes the session and the failed tries alone.

@@ -9,10 +9,7 @@ ghost use Rattle.work.specs.Steps.{encipherment, counted, sum_from};
 ghost use Rattle.plaid_types.specs.Keys.{wide};
 ghost use Rattle.diversification.specs.Diversification.{flipped, diversified_by, diversify_steps};
 
-use work::Prepared;
-
-// The kind of a step.
-const ENCIPHERMENT: u8 = 3;
+use work::{Kind, Prepared};
 
 // The diversified key, in the first of 32 bytes, with the count and the work sum of the encipherments that made it.
 #[derive(Clone, Copy)]
@@ -44,7 +41,8 @@ pub fn diversify(
 {
     let shown = work::prepare(fa_key);
     let first = aes::encipher(table, w, div);
-    let after = work::mix_cipher(sum, ENCIPHERMENT, shown, div, first);
+    let kind = Kind::Encipherment.number();
+    let after = work::mix_cipher(sum, kind, shown, div, first);
     let mut key = [0u8; 32];
     octets::copy_at(&mut key, 0, &first);
     if 16 < fa_key.len() {
@@ -53,13 +51,13 @@ pub fn diversify(
         let rest = fa_key.len() - 16;
         octets::copy_at(&mut key, 16, &second[..rest]);
         return Diversified {
-            key: key,
+            key,
             count: 2,
-            sum: work::mix_cipher(after, ENCIPHERMENT, shown, other, second),
+            sum: work::mix_cipher(after, kind, shown, other, second),
         };
     }
     Diversified {
-        key: key,
+        key,
         count: 1,
         sum: after,
     }

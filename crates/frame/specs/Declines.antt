@@ -3,7 +3,11 @@ use Rattle.std.specs.Prelude.{Bool, true, cond, ◌&&◌, not, List, [], ◌∷�
 use Rattle.plaid_types.specs.Keys.{str1_length}
 use Rattle.plaid_types.specs.Tries.{is_interface}
 use Rattle.frame.specs.Frame.{status_of}
-use Rattle.frame.specs.declared.Verdict.{Verdict}
+
+-- what a call is told: 9000 where it goes on; a number, or a status of ISO/IEC 7816-4, where it is declined
+pub record Verdict : Type 0 where
+  pub number : ℕ
+  pub status : ℕ
 
 abbrev pub no_zero : List ℕ → Bool
 no_zero [] = true

@@ -1,16 +1,22 @@
 -- Laws of the frame and of what is checked before a command is run: the bytes of a frame are those of the command, and what a call that is not
 -- declined has shown. Assumes nothing.
-use Rattle.std.specs.Prelude.{◌≡◌, refl, Bool, true, false, cond, ◌&&◌, List, ◌++◌, ℕ, ◌+◌, ◌-◌, ◌<◌, ◌≤◌, eqb, ltb, length, get_or, drop}
-use Rattle.std.proofs.Common.{sym, ap, ◌∙◌, arith, length-drop, drop_of_length-le, get_or-append-add}
-use Rattle.std.proofs.Math.Bool.{and-eq-true_iff, and-true}
+use Rattle.std.specs.Prelude.{◌≡◌, refl, Bool, true, false, cond, ◌&&◌, List, ◌++◌, ℕ, ◌+◌, ◌-◌, ◌<◌, ◌≤◌, eqb, ltb, length, get_or, Result, Ok, Err}
+use Rattle.std.specs.Result.{IsErrAnd}
+use Rattle.std.proofs.Common.{sym, ap, ◌∙◌, arith, length-drop, get_or-append-add}
+use Rattle.std.proofs.Math.Bool.{and-eq-true_iff}
 use borrow.Author.Tests.{eqb-true, ltb-true, ltb-false, eq-eqb, lt-ltb, le-ltb}
 use Rattle.std.proofs.Math.ListN.{get_or-append}
 use Rattle.octets.specs.Lists.{part, length_part, get_or-part}
 use Rattle.plaid_types.specs.Keys.{str1_length}
 use Rattle.plaid_types.specs.Tries.{is_interface}
 use Rattle.frame.specs.Frame.{frame_of, cla_of, ins_of, p1_of, p2_of, lc_of, le_of, known_ins, whole, status_of, data_of}
-use Rattle.frame.specs.Declines.{no_zero, pad_bytes, verdict}
-use Rattle.frame.specs.declared.Verdict.{Verdict}
+use Rattle.refusals.specs.declared.Refusal.{Refusal}
+use Rattle.frame.specs.declared.Fault.{Fault}
+use Rattle.frame.specs.declared.Fault.TheVariants.{WrongLength, WrongClass, WrongInstruction, WrongParameters}
+use Rattle.frame.specs.declared.Decline.{Decline}
+use Rattle.frame.specs.declared.Decline.TheVariants as decline
+use Rattle.frame.specs.Told.{fault_status, FromNumber, FromFault, decline_told, verdict_told}
+use Rattle.frame.specs.Declines.{Verdict, no_zero, pad_bytes, verdict}
 
 -- fewer than six bytes are the frame
 short-by : (c : List ℕ) (t : Bool) → ltb (length c) 6 ≡ t → length c < 6 → cond t c (part c 0 5 ++ part c (length c - 1) 1) ≡ c
@@ -108,6 +114,30 @@ unfolding status_of
 faultless n f q =
     faultless-by n f (ltb n 4) (eqb (cla_of f) 0) (known_ins (ins_of f)) (eqb (p1_of f) 0 && eqb (p2_of f) 0) (whole n f) refl refl refl refl refl q
 
+-- what `?` tells of a refusal, and of a fault of the frame
+pub told-number : {A : Type 0} (o : Result A Decline) (r : Refusal) → IsErrAnd o (FromNumber r) → verdict_told o ≡ decline_told (decline.Number r)
+told-number (Ok x) r h = absurd h
+told-number (Err d) r h = ap decline_told h
+
+pub told-fault : {A : Type 0} (o : Result A Decline) (s : Fault) → IsErrAnd o (FromFault s) → verdict_told o ≡ decline_told (decline.Status s)
+told-fault (Ok x) s h = absurd h
+told-fault (Err d) s h = ap decline_told h
+
+-- the status is 9000 where nothing is declined, and there alone
+pub told-ok : {A : Type 0} (o : Result A Decline) → ((d : Decline) → o ≡ Err d → ⊥) → (verdict_told o).status ≡ 0x9000
+told-ok (Ok x) h = refl
+told-ok (Err d) h = absurd (h d refl)
+
+fault-not : (s : Fault) → fault_status s ≡ 0x9000 → ⊥
+fault-not WrongLength e = omega arith
+fault-not WrongClass e = omega arith
+fault-not WrongInstruction e = omega arith
+fault-not WrongParameters e = omega arith
+
+pub told-err : (d : Decline) → (decline_told d).status ≡ 0x9000 → ⊥
+told-err (decline.Number r) e = omega arith
+told-err (decline.Status s) e = fault-not s e
+
 -- the verdict, by the tests that led there
 module _ (i l n : ℕ) (f fresh : List ℕ) (room : ℕ) where
   pub says-26 : is_interface i ≡ false → record { number = 26; status = 0 } ≡ verdict i l n f fresh room
@@ -187,7 +217,3 @@ data-long c k = length_part c 5 (length c - 6) (omega arith) ∙ omega arith
 pub length-pads : (l : ℕ) (fresh : List ℕ) → length fresh ≡ 253 → length (pad_bytes l fresh) ≡ 253 - str1_length l
 unfolding pad_bytes
 length-pads l fresh e = omega (arith, length-drop (str1_length l) fresh)
-
--- the look for a zero byte ends where the list does
-pub zero-done : (s : List ℕ) (i : ℕ) (ok all : Bool) → length s ≤ i → (ok && no_zero (drop i s)) ≡ all → ok ≡ all
-zero-done s i ok all h e = sym (ap (λ (l : List ℕ). ok && no_zero l) (drop_of_length-le s {i = i} h) ∙ and-true ok) ∙ e

@@ -1,4 +1,5 @@
 pub mod Frame
 pub mod Declines
+pub mod Told
 pub mod Laws
 pub mod Framed

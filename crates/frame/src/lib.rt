@@ -1,77 +1,106 @@
 //! What is checked of a call before its command is run.
 #![tactic(auto)]
 
-ghost use Rattle.std.specs.Prelude.{◌≡◌, ◌&&◌, cond, not, ◌≤◌, length, drop, eqb};
+ghost use Rattle.std.specs.Prelude.{◌≡◌, cond, ◌≤◌, length, drop};
 ghost use Rattle.frame.specs.Frame.{frame_of, known_ins, whole, status_of};
 ghost use Rattle.frame.specs.Declines.{no_zero, pad_bytes, verdict};
+ghost use Rattle.frame.specs.Told.{fault_status, status_told, FromNumber, FromFault, verdict_told};
 
 use plaid_types::{Answer, Fresh, Interface};
+use refusals::Refusal;
 
-// 9000 where the call goes on; a number, or a status of ISO/IEC 7816-4, where it is declined.
-#[derive(Clone, Copy)]
-pub struct Verdict {
-    pub number: u8,
-    pub status: u16,
+// A fault of a frame.
+#[derive(Clone, Copy, Debug, PartialEq, Eq)]
+pub enum Fault {
+    WrongLength,
+    WrongClass,
+    WrongInstruction,
+    WrongParameters,
 }
 
+impl Fault {
+    // Its status of ISO/IEC 7816-4.
+    pub fn status(self) -> u16
+        ensures { result ≡ fault_status self }
+    {
+        match self {
+            Fault::WrongLength => 0x6700,
+            Fault::WrongClass => 0x6E00,
+            Fault::WrongInstruction => 0x6D00,
+            Fault::WrongParameters => 0x6A86,
+        }
+    }
+}
+
+// Why a call is declined: by a number of the documents, or by a status.
+#[derive(Clone, Copy, Debug, PartialEq, Eq)]
+pub enum Decline {
+    Number(Refusal),
+    Status(Fault),
+}
+
+impl From<Refusal> for Decline {
+    ghost from_gives = { FromNumber };
+
+    fn from(r: Refusal) -> Decline {
+        Decline::Number(r)
+    }
+}
+
+impl From<Fault> for Decline {
+    ghost from_gives = { FromFault };
+
+    fn from(s: Fault) -> Decline {
+        Decline::Status(s)
+    }
+}
+
+// Every byte is looked at: no `all`, which ends at the first zero.
 pub fn no_zero(s: &[u8], from: usize) -> bool
     ensures { result ≡ no_zero (drop from s.now) }
 {
-    let mut ok = true;
-    let mut i = from;
-    while i < s.len() {
-        ok = also(ok, s[i]);
-        i += 1;
-    }
-    ok
-}
-
-fn also(ok: bool, b: u8) -> bool
-    ensures { result ≡ (not (eqb b 0) && ok) }
-{
-    if b == 0 { false } else { ok }
+    s.iter()
+        .skip(from)
+        .fold(true, |ok, b| octets::both(ok, *b != 0))
 }
 
 fn known_ins(i: u8) -> bool
     ensures { result ≡ known_ins i }
 {
-    if i == 0x87 { true } else { i == 0x86 }
+    matches!(i, 0x87 | 0x86)
 }
 
-fn rest_status(cmd: &[u8]) -> u16
-    ensures { result ≡ cond (whole (length cmd.now) (frame_of cmd.now)) 0x9000 0x6700 }
+fn rest_status(cmd: &[u8]) -> Result<(), Fault>
+    ensures { status_told result ≡ cond (whole (length cmd.now) (frame_of cmd.now)) 0x9000 0x6700 }
 {
     let n = cmd.len();
     if n < 7 {
-        return 0x6700;
+        return Err(Fault::WrongLength);
     }
-    let lc = cmd[4] as usize;
+    let lc = usize::from(cmd[4]);
     if n != lc + 6 {
-        return 0x6700;
+        return Err(Fault::WrongLength);
     }
     if cmd[n - 1] != 0 {
-        return 0x6700;
+        return Err(Fault::WrongLength);
     }
-    Answer::OK
+    Ok(())
 }
 
-pub fn status(cmd: &[u8]) -> u16
-    ensures { result ≡ status_of (length cmd.now) (frame_of cmd.now) }
+pub fn status(cmd: &[u8]) -> Result<(), Fault>
+    ensures { status_told result ≡ status_of (length cmd.now) (frame_of cmd.now) }
 {
     if cmd.len() < 4 {
-        return 0x6700;
+        return Err(Fault::WrongLength);
     }
     if cmd[0] != 0 {
-        return 0x6E00;
+        return Err(Fault::WrongClass);
     }
     if !known_ins(cmd[1]) {
-        return 0x6D00;
+        return Err(Fault::WrongInstruction);
     }
-    if cmd[2] != 0 {
-        return 0x6A86;
-    }
-    if cmd[3] != 0 {
-        return 0x6A86;
+    if cmd[2] != 0 || cmd[3] != 0 {
+        return Err(Fault::WrongParameters);
     }
     rest_status(cmd)
 }
@@ -88,38 +117,20 @@ fn pads_nonzero(l: usize, fresh: &[u8]) -> bool
 }
 
 // The checks of a call on interface i to a card whose keys have l bytes.
-pub fn check(i: usize, l: usize, cmd: &[u8], fresh: &[u8], room: usize) -> Verdict
+pub fn check(i: usize, l: usize, cmd: &[u8], fresh: &[u8], room: usize) -> Result<(), Decline>
     requires { l ≤ 32 }
-    ensures { result ≡ verdict i l (length cmd.now) (frame_of cmd.now) fresh.now room }
+    ensures { verdict_told result ≡ verdict i l (length cmd.now) (frame_of cmd.now) fresh.now room }
 {
-    let known = Interface::is_known(i);
-    let all = fresh.len() == Fresh::ALL;
-    if !known {
-        return Verdict {
-            number: 26,
-            status: 0,
-        };
-    }
-    if !all {
-        return Verdict {
-            number: 8,
-            status: 0,
-        };
+    Interface::try_from(i)?;
+    if fresh.len() != Fresh::ALL {
+        return Err(Decline::Number(Refusal::FreshCount));
     }
     if !pads_nonzero(l, fresh) {
-        return Verdict {
-            number: 9,
-            status: 0,
-        };
+        return Err(Decline::Number(Refusal::PadByte));
     }
     if room < Answer::INITIAL {
-        return Verdict {
-            number: 10,
-            status: 0,
-        };
+        return Err(Decline::Number(Refusal::Output));
     }
-    Verdict {
-        number: 0,
-        status: status(cmd),
-    }
+    status(cmd)?;
+    Ok(())
 }

@@ -1,5 +1,9 @@
 -- Document 02, T-06: failed tries for each interface.
-use Rattle.std.specs.Prelude.{Bool, cond, ◌&&◌, ◌||◌, ℕ, ◌+◌, min, eqb}
+use Rattle.std.specs.Prelude.{◌≡◌, Bool, false, cond, ◌&&◌, ◌||◌, ℕ, ◌+◌, min, eqb, Result, MatchResult}
+use Rattle.refusals.specs.declared.Refusal.{Refusal}
+use Rattle.refusals.specs.declared.Refusal.TheVariants as refusal
+use Rattle.plaid_types.specs.declared.Interface.{Interface}
+use Rattle.plaid_types.specs.declared.Interface.TheVariants.{Contact, Contactless}
 use Rattle.plaid_types.specs.declared.Tries.{Tries}
 
 -- "Each command call names its interface, contact (0) or contactless (1)"
@@ -12,6 +16,14 @@ contactless = 1
 -- "26 unknown interface" is the other case
 unfoldable pub is_interface : ℕ → Bool
 is_interface i = eqb i contact || eqb i contactless
+
+abbrev pub interface_number : Interface → ℕ
+interface_number Contact = contact
+interface_number Contactless = contactless
+
+-- a number names the interface that has it; another is refused
+abbrev pub NamesInterface : ℕ → Result Interface Refusal → Type 0
+NamesInterface i r = MatchResult r (λ k. i ≡ interface_number k) (λ e. (is_interface i ≡ false) × (e ≡ refusal.Interface))
 
 -- "from 0 on a new card"
 abbrev pub no_tries : Tries

@@ -3,16 +3,18 @@
 
 ghost use Rattle.std.specs.Prelude.{◌≡◌, cond, ◌+◌, ◌≤◌, length};
 ghost use Rattle.plaid_types.specs.Keys.{lawful, wide, value_of, no_value, str1_length};
-ghost use Rattle.plaid_types.specs.Tries.{is_interface, no_tries, one_more, tries_after};
+ghost use Rattle.plaid_types.specs.Tries.{NamesInterface, no_tries, one_more, tries_after};
 ghost use Rattle.plaid_types.specs.Cards.{no_session, with_session, with_tries, with_sets};
+
+use refusals::Refusal;
 
 // The two kinds of identifier are types of their own: a key set number is never taken where a mode number belongs.
 #[repr(C)]
-#[derive(Clone, Copy)]
+#[derive(Clone, Copy, Debug, PartialEq, Eq)]
 pub struct KeySetId(pub u16);
 
 #[repr(C)]
-#[derive(Clone, Copy)]
+#[derive(Clone, Copy, Debug, PartialEq, Eq)]
 pub struct OpModeId(pub u16);
 
 // A key, RND or KeysHash as a caller gives or gets it (T-04): so many bytes, from the first on. It can hold 32.
@@ -30,10 +32,9 @@ impl Value {
         requires { length k.now ≤ 32 }
         ensures { result ≡ value_of k.now }
     {
-        let bytes = wide(k);
         Value {
             length: k.len() as u8,
-            bytes: bytes,
+            bytes: wide(k),
         }
     }
 
@@ -47,7 +48,7 @@ impl Value {
     }
 }
 
-// Bytes as a card or a value holds them: zeros behind them.
+// Bytes as a card or a value holds them: zeros after them.
 pub fn wide(k: &[u8]) -> [u8; Value::MOST]
     requires { length k.now ≤ 32 }
     ensures { result ≡ wide k.now }
@@ -150,23 +151,24 @@ impl Session {
     }
 }
 
-// The interface that a command call names (T-06), as a number.
-#[derive(Clone, Copy)]
-pub struct Interface;
+// The interface of a command call (T-06).
+#[derive(Clone, Copy, Debug, PartialEq, Eq)]
+pub enum Interface {
+    Contact,
+    Contactless,
+}
 
-impl Interface {
-    pub const CONTACT: usize = 0;
+// A call gives it as a number.
+impl TryFrom<usize> for Interface {
+    type Error = Refusal;
 
-    pub const CONTACTLESS: usize = 1;
+    ghost try_from_gives = { NamesInterface };
 
-    // Any other number is no interface.
-    pub fn is_known(i: usize) -> bool
-        ensures { result ≡ is_interface i }
-    {
-        if i == Interface::CONTACT {
-            true
-        } else {
-            i == Interface::CONTACTLESS
+    fn try_from(i: usize) -> Result<Self, Refusal> {
+        match i {
+            0 => Ok(Interface::Contact),
+            1 => Ok(Interface::Contactless),
+            _ => Err(Refusal::Interface),
         }
     }
 }
@@ -180,8 +182,6 @@ pub struct Tries {
 }
 
 impl Tries {
-    pub const MOST: u16 = 65535;
-
     // A new card has none.
     pub fn none() -> Tries
         ensures { result ≡ no_tries }
@@ -196,11 +196,16 @@ impl Tries {
     pub fn after(self, i: usize, refused: bool) -> Tries
         ensures { result ≡ tries_after i refused self }
     {
-        let here = octets::both(refused, i == Interface::CONTACT);
-        let air = octets::both(refused, i == Interface::CONTACTLESS);
-        Tries {
-            contact: counted(here, self.contact),
-            contactless: counted(air, self.contactless),
+        match Interface::try_from(i) {
+            Ok(Interface::Contact) => Tries {
+                contact: counted(refused, self.contact),
+                contactless: self.contactless,
+            },
+            Ok(Interface::Contactless) => Tries {
+                contact: self.contact,
+                contactless: counted(refused, self.contactless),
+            },
+            Err(_) => self,
         }
     }
 }
@@ -209,13 +214,7 @@ impl Tries {
 fn counted(one: bool, n: u16) -> u16
     ensures { result ≡ cond one (one_more n) n }
 {
-    if one {
-        if n < Tries::MOST {
-            return n + 1;
-        }
-        return Tries::MOST;
-    }
-    n
+    n.saturating_add(u16::from(one))
 }
 
 #[repr(C)]
@@ -265,7 +264,7 @@ impl Card {
 
 // What a command call answers beside the output bytes.
 #[repr(C)]
-#[derive(Clone, Copy)]
+#[derive(Clone, Copy, Default)]
 pub struct Answer {
     pub number: u8,
     pub status: u16,
@@ -289,7 +288,7 @@ impl Answer {
     pub const OK: u16 = 0x9000;
 }
 
-// What a command call hands back. The work sum stands beside the answer, so that nobody who sends an answer sends it along.
+// What a command call returns. The work sum is beside the answer, so that nobody who sends an answer sends it along.
 #[repr(C)]
 #[derive(Clone, Copy)]
 pub struct Outcome {

@@ -9,9 +9,8 @@ use Rattle.std.proofs.Math.ListN.{length-append}
 use Rattle.octets.specs.Lists.{part}
 use Rattle.octets.specs.Same.{same_of}
 use Rattle.frame.specs.Frame.{frame_of, ins_of, initial_ins, status_of, data_of}
-use Rattle.frame.specs.Declines.{pad_bytes, no_zero, verdict}
+use Rattle.frame.specs.Declines.{Verdict, pad_bytes, no_zero, verdict}
 use Rattle.frame.specs.Laws.{length-pads}
-use Rattle.frame.specs.declared.Verdict.{Verdict}
 use Rattle.plaid_types.specs.Keys.{key_length_of}
 use Rattle.plaid_types.specs.Tries.{is_interface, tries_after}
 use Rattle.plaid_types.specs.Cards.{with_session, with_tries}

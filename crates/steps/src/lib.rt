@@ -1,4 +1,4 @@
-//! Steps of a command: each function makes one, and hands back its result, its count and the work sum together.
+//! Steps of a command: each function makes one, and returns its result, its count and the work sum together.
 #![tactic(auto)]
 
 ghost use Rattle.std.specs.Prelude.{◌≡◌, true, [], ◌∷◌, ◌/◌, length};
@@ -12,7 +12,6 @@ ghost use Rattle.steps.specs.Made.{
   hash_steps,
   shown,
   matched,
-  bit_of,
   comparison_step,
   set_matched,
   set_comparison,
@@ -22,23 +21,13 @@ ghost use Rattle.steps.specs.Made.{
 };
 
 use plaid_types::{KeySetId, OpModeId};
+use work::Kind;
 
 #[derive(Clone, Copy)]
 pub struct Expanded {
     pub rows: [[u8; 16]; 15],
     pub count: usize,
     pub sum: u32,
-}
-
-// The three as one value. By itself, so that only this one and round_keys are proved by hand.
-fn together(rows: [[u8; 16]; 15], count: usize, sum: u32) -> Expanded
-    ensures { result ≡ record { rows = rows; count = count; sum = sum } }
-{
-    Expanded {
-        rows: rows,
-        count: count,
-        sum: sum,
-    }
 }
 
 // The round keys of an expansion.
@@ -48,17 +37,22 @@ pub fn round_keys(e: Expanded) -> [[u8; 16]; 15]
     e.rows
 }
 
-// Expands a key. The work sum has the round keys alone, not the zeros behind them.
+// Expands a key. The work sum has the round keys alone, not the zeros after them.
 pub fn expand(table: &[u8; 256], key: &[u8], sum: u32) -> Expanded
     requires { (table.now ≡ sbox_table) × (is_key_length (length key.now) ≡ true) }
     ensures { result ≡ record { rows = fifteen (length key.now / 4) key.now; count = counted expansion (expansion_step key.now ∷ []); sum = sum_from sum (expansion_step key.now ∷ []) } }
 {
     let rows = key_expansion::expand(table, key);
     let n = key.len() / 4 + 7;
-    let a = work::mix(sum, 4);
+    let a = work::mix(sum, Kind::Expansion.number());
     let b = work::mix_all(a, key);
     let c = work::mix_rows(b, &rows[..n]);
-    together(rows, 1, c)
+    let count = 1;
+    Expanded {
+        rows,
+        count,
+        sum: c,
+    }
 }
 
 #[derive(Clone, Copy)]
@@ -75,18 +69,16 @@ pub fn hash(m: &[u8], sum: u32) -> Hashing
     let n = sha_padding::block_count(m);
     let mut h = sha256::initial();
     let mut s = sum;
-    let mut i: usize = 0;
-    while i < n {
+    for i in 0..n {
         let b = sha_padding::padded_block(m, i);
         let x = sha_block::compress(h, &b);
         let o = sha256::to_bytes(x);
-        s = work::mix_step(s, 5, &[], &b, &o);
+        s = work::mix_step(s, Kind::HashBlock.number(), &[], &b, &o);
         h = x;
-        i += 1;
     }
     Hashing {
         digest: sha256::to_bytes(h),
-        count: i,
+        count: n,
         sum: s,
     }
 }
@@ -108,18 +100,7 @@ fn mix_shown(s: u32, present: bool, v: u16) -> u32
 fn matches(present: bool, v: u16, held: bool, w: u16) -> bool
     ensures { result ≡ matched present v held w }
 {
-    if present {
-        if held {
-            return v == w;
-        }
-    }
-    false
-}
-
-fn bit(y: bool) -> u8
-    ensures { result ≡ bit_of y }
-{
-    if y { 1 } else { 0 }
+    present && held && v == w
 }
 
 // Compares a value, which may be missing, with a slot's, which may be empty.
@@ -127,12 +108,12 @@ fn compare(present: bool, v: u16, held: bool, w: u16, sum: u32) -> Compared
     ensures { result ≡ record { hit = matched present v held w; count = counted comparison (comparison_step present v held w ∷ []); sum = sum_from sum (comparison_step present v held w ∷ []) } }
 {
     let hit = matches(present, v, held, w);
-    let a = work::mix(sum, 1);
+    let a = work::mix(sum, Kind::Comparison.number());
     let b = mix_shown(a, present, v);
     let c = mix_shown(b, held, w);
-    let d = work::mix(c, bit(hit));
+    let d = work::mix(c, u8::from(hit));
     Compared {
-        hit: hit,
+        hit,
         count: 1,
         sum: d,
     }

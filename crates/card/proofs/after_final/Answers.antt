@@ -1,8 +1,10 @@
--- `card::after_final` meets its contract. Assumes nothing.
-use mathlib.Core.Path.{ap}
-use Rattle.plaid_types.specs.declared.Session.{Session}
-use Rattle.card.specs.After.{after_final}
+-- `card::after_final` meets its contract: what it does not fill in is 0. Assumes nothing.
+use Rattle.std.proofs.Common.{◌≡◌, rules}
 use Rattle.card.proofs.after_final.Goals as goal
 
 pub returns : goal.returns
-returns c = let o = after_final c.args.r in ap (λ (s : Session). record { answer = o.answer; sum = o.sum; session = s; refused = o.refused }) c.none.ensures
+returns c =
+    let z = c.default.result in
+    let n : z.number ≡ 0 = search rules in
+    let h : z.handle ≡ 0 = search rules in
+    rw (n, h, c.none.ensures)

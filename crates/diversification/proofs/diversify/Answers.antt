@@ -50,8 +50,8 @@ returns-then-fa_key-gt16 c =
     (c.copy_at.ensures ∙ ap (over (replicate 32 0) 0) e)
     e₂
     c.copy_at-then-fa_key-gt16.ensures
-    (c.mix_cipher-after.ensures ∙ prepared-step a.sum (record { kind = encipherment; key = fa; input = a.div; output = c.encipher-first.result }) c.prepare-shown.ensures ∙ ap (λ (x : List ℕ). mixed_all a.sum (bytes_of (record { kind = encipherment; key = fa; input = a.div; output = x }))) e)
-    (c.mix_cipher.ensures ∙ prepared-step c.mix_cipher-after.result (record { kind = encipherment; key = fa; input = c.flip-other.result; output = c.encipher-second.result }) c.prepare-shown.ensures ∙ ap₂ (λ (x y : List ℕ). mixed_all c.mix_cipher-after.result (bytes_of (record { kind = encipherment; key = fa; input = x; output = y }))) f e₂)
+    (rw c.number-kind.ensures at c.mix_cipher-after.ensures ∙ prepared-step a.sum (record { kind = encipherment; key = fa; input = a.div; output = c.encipher-first.result }) c.prepare-shown.ensures ∙ ap (λ (x : List ℕ). mixed_all a.sum (bytes_of (record { kind = encipherment; key = fa; input = a.div; output = x }))) e)
+    (rw c.number-kind.ensures at c.mix_cipher.ensures ∙ prepared-step c.mix_cipher-after.result (record { kind = encipherment; key = fa; input = c.flip-other.result; output = c.encipher-second.result }) c.prepare-shown.ensures ∙ ap₂ (λ (x y : List ℕ). mixed_all c.mix_cipher-after.result (bytes_of (record { kind = encipherment; key = fa; input = x; output = y }))) f e₂)
 
 pub returns : goal.returns
 returns c =
@@ -60,4 +60,4 @@ returns c =
     let e = c.encipher-first.ensures ∙ by_rows fa a.div c.requires.2 in
     told-short fa a.div a.sum (short (length fa) c.requires.1 c.if-fa_key-gt16.false)
     (c.copy_at.ensures ∙ ap (over (replicate 32 0) 0) e)
-    (c.mix_cipher-after.ensures ∙ prepared-step a.sum (record { kind = encipherment; key = fa; input = a.div; output = c.encipher-first.result }) c.prepare-shown.ensures ∙ ap (λ (x : List ℕ). mixed_all a.sum (bytes_of (record { kind = encipherment; key = fa; input = a.div; output = x }))) e)
+    (rw c.number-kind.ensures at c.mix_cipher-after.ensures ∙ prepared-step a.sum (record { kind = encipherment; key = fa; input = a.div; output = c.encipher-first.result }) c.prepare-shown.ensures ∙ ap (λ (x : List ℕ). mixed_all a.sum (bytes_of (record { kind = encipherment; key = fa; input = a.div; output = x }))) e)

@@ -1,11 +1,21 @@
--- `no_zero` meets its contract. What is left to look at, with what was seen, is the whole (Turns). Assumes nothing.
-use Rattle.frame.specs.Laws.{zero-done}
-use Rattle.frame.proofs.Turns.{zero_turn}
+-- `no_zero` meets its contract: the fold over what is left is the definition's. Assumes nothing.
+use Rattle.std.proofs.Common.{◌≡◌, refl, Bool, true, false, ◌&&◌, not, List, [], ◌∷◌, ℕ, eqb, fold, drop, rules, ◌∙◌}
+use Rattle.std.proofs.lemmas.Iterator.{YieldsList-from_slice}
+use Rattle.std.proofs.lemmas.Iterator.Consumers.{fold_from_yields_List}
+use Rattle.std.proofs.lemmas.Iterator.Adapters.{YieldsList-from_skip}
+use Rattle.frame.specs.Declines.{no_zero}
 use Rattle.frame.proofs.no_zero.Goals as goal
 
-pub loop-i-preserved : goal.loop-i-preserved
-loop-i-preserved c =
-    zero_turn _ _ _ _ _ c.loop-i-test.true c.also-ok.ensures c.loop-i.invariant
+abbrev also : Bool → ℕ → Bool
+also ok b = ok && not (eqb b 0)
+
+folded : (ok : Bool) (bs : List ℕ) → fold also ok bs ≡ (ok && no_zero bs)
+folded true [] = refl
+folded false [] = refl
+folded true (b ∷ bs) = folded (not (eqb b 0)) bs
+folded false (b ∷ bs) = folded false bs
 
 pub returns : goal.returns
-returns c = zero-done _ _ _ _ c.loop-i-test.false c.loop-i.invariant
+returns c =
+    fold_from_yields_List _ also true _ c.fold.ensures.ran (YieldsList-from_skip c.args.from (YieldsList-from_slice c.args.s.now cc) cc) (λ a x b q k. (search rules, search rules))
+    ∙ folded true (drop c.args.from c.args.s.now)

@@ -1,6 +1,5 @@
 -- `rest_status` meets its contract: each answer says of Lc, the total and Le what makes the frame whole or not. Assumes nothing.
-use native.Mathlib.Omega.{arith}
-use lib.ListN.{length}
+use Rattle.std.proofs.Common.{arith, length}
 use Rattle.frame.specs.Frame.{frame_of}
 use Rattle.frame.specs.Laws.{frame_byte, frame-last, whole_is, whole-not}
 use Rattle.frame.proofs.rest_status.Goals as goal

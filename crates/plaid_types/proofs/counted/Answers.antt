@@ -1,17 +1,13 @@
--- `plaid_types::counted` meets its contract: one more below the most, and the most there. Assumes nothing.
-use mathlib.Core.Path.{sym, ap, ◌∙◌}
-use mathlib.Core.Bool.{Bool, cond}
-use native.Mathlib.Omega.{arith}
-use Rattle.plaid_types.specs.Tries.{one_more}
-use Rattle.plaid_types.specs.TriesLaws.{holding-small, holding-large}
+-- `plaid_types::counted` meets its contract, by whether there is one to count. It names no step: what is added up is left to omega. Assumes nothing.
+use Rattle.std.proofs.Common.{◌≡◌, Bool, true, false, cond, ℕ, ◌+◌, ◌<◌, min, arith}
+use mir.Val.{bool_byte}
+use Rattle.plaid_types.specs.Tries.{holding, one_more}
 use Rattle.plaid_types.proofs.counted.Goals as goal
 
-pub returns-then-n-lt-MOST : goal.returns-then-n-lt-MOST
-returns-then-n-lt-MOST c =
-    let a = c.args in
-    sym (ap (λ (t : Bool). cond t (one_more a.n) a.n) c.if-one.true ∙ holding-small _ (omega (arith, c.if-n-lt-MOST.true)))
+by_test : (one : Bool) (n : ℕ) {sum : ℕ} → n < 65536 → sum ≡ min (n + bool_byte one) 65535 → sum ≡ cond one (one_more n) n
+unfolding holding
+by_test true n h e = omega arith
+by_test false n h e = omega arith
 
-pub returns-then-one : goal.returns-then-one
-returns-then-one c =
-    let a = c.args in
-    sym (ap (λ (t : Bool). cond t (one_more a.n) a.n) c.if-one.true ∙ holding-large _ (omega (arith, c.if-n-lt-MOST.false)))
+pub returns : goal.returns
+returns c = by_test c.args.one c.args.n c.ranges.n.fits (omega arith)

@@ -45,4 +45,4 @@ slice_bounds-mix_rows-end c =
 pub returns : goal.returns
 returns c =
     let a = c.args in
-    c.together.ensures ∙ same a.key.now a.sum c.expand-rows.ensures c.mix-a.ensures c.mix_all-b.ensures c.mix_rows-c.ensures
+    same a.key.now a.sum c.expand-rows.ensures (c.mix-a.ensures ∙ ap (mixed a.sum) c.number.ensures) c.mix_all-b.ensures c.mix_rows-c.ensures

@@ -12,7 +12,6 @@ use Rattle.steps.specs.declared.Hashing.{Hashing}
 use Rattle.steps.specs.Made.{hash_step, hash_steps}
 use Rattle.steps.specs.Laws.{counted-hash}
 use Rattle.steps.proofs.Turns.{state-turn, sum-turn}
-use Rattle.std.proofs.Common.{rules}
 use Rattle.steps.proofs.hash.Goals as goal
 
 hashed-same : {d d' : List ℕ} {n n' s s' : ℕ} → d ≡ d' → n ≡ n' → s ≡ s' → ◌≡◌ {A = Hashing} (record { digest = d; count = n; sum = s }) (record { digest = d'; count = n'; sum = s' })
@@ -24,7 +23,6 @@ loop-i-init c =
     let m = c.args.m.now in
     let e : c.block_count-n.result - 0 ≡ blocks m = omega (arith, c.block_count-n.ensures) in (
       c.block_count-n.ensures,
-      search rules,
       c.initial-h.ensures,
       ap (λ (k : ℕ). sum_from c.args.sum (table (hash_step m) k 0)) e,
     )
@@ -33,11 +31,10 @@ pub loop-i-preserved : goal.loop-i-preserved
 loop-i-preserved c =
     let l = c.loop-i in
     let m = c.args.m.now in
-    let x = state-turn m l.i l.invariant.2 c.padded_block-b.ensures c.compress-x.ensures in (
+    let x = state-turn m l.i l.invariant.1 c.padded_block-b.ensures c.compress-x.ensures in (
       l.invariant.0,
-      omega arith,
       x ∙ ap (state_after m) (sym (add-one l.i)),
-      sum-turn m l.i l.invariant.2 c.padded_block-b.ensures c.compress-x.ensures _ _ _ _ [] _ c.loop-i-test.true refl c.to_bytes-o.ensures c.mix_step-s.ensures l.invariant.3,
+      sum-turn m l.i l.invariant.1 c.padded_block-b.ensures c.compress-x.ensures _ _ _ _ [] _ c.loop-i-test.true refl c.to_bytes-o.ensures (rw c.number.ensures at c.mix_step-s.ensures) l.invariant.2,
     )
 
 pub returns : goal.returns
@@ -48,6 +45,6 @@ returns c =
     let e : l.i ≡ blocks m = omega arith in
     let z : c.block_count-n.result - l.i ≡ 0 = omega arith in
     hashed-same
-    (c.to_bytes.ensures ∙ ap digest_bytes (l.invariant.2 ∙ ap (state_after m) e))
-    (e ∙ sym (counted-hash hash_block m))
-    (sym (ap (λ (k : ℕ). sum_from l.s (table (hash_step m) k l.i)) z) ∙ l.invariant.3)
+    (c.to_bytes.ensures ∙ ap digest_bytes (l.invariant.1 ∙ ap (state_after m) e))
+    (c.block_count-n.ensures ∙ sym (counted-hash hash_block m))
+    (sym (ap (λ (k : ℕ). sum_from l.s (table (hash_step m) k l.i)) z) ∙ l.invariant.2)
