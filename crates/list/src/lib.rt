@@ -46,10 +46,7 @@ fn fitting(d: &[u8], v: usize, next: usize) -> Option<Length>
 fn length_at(d: &[u8], at: usize) -> Option<Length>
     ensures { result ≡ length_at d.now at }
 {
-    if d.len() <= at {
-        return None;
-    }
-    let b = usize::from(d[at]);
+    let b = usize::from(*d.get(at)?);
     let from = at + 1;
     if b < 0x80 {
         return fitting(d, b, from);
@@ -90,10 +87,8 @@ fn id_at(d: &[u8], at: usize) -> KeySetId
 fn entry_at(d: &[u8], at: usize) -> Option<Entry>
     ensures { result ≡ entry_at d.now at }
 {
-    if d.len() <= at {
-        return None;
-    }
-    if d[at] != 4 {
+    let tag = *d.get(at)?;
+    if tag != 4 {
         return None;
     }
     let l = length_at(d, at + 1)?;
@@ -168,7 +163,7 @@ fn walk(d: &[u8], at: usize, n: usize) -> usize
     ensures { result ≡ walked d.now at n }
 {
     let mut p = at;
-    for j in 0..n {
+    for _ in 0..n {
         let c = Cursor { list: d, at: p };
         let Some(e) = c.step() else {
             return p;
