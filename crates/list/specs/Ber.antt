@@ -80,8 +80,8 @@ unfoldable pub listed : List ℕ → Option ℕ
 listed d = listed_from d (head d)
 
 -- whether a list is well formed, and where its entries start; of a malformed list nothing is read, and that place is 0
-abbrev pub formed : List ℕ → Bool
-formed d = is_some (listed d)
+abbrev pub is_formed : List ℕ → Bool
+is_formed d = is_some (listed d)
 
 abbrev pub first_entry : List ℕ → ℕ
 first_entry d = unwrap_or (listed d) 0

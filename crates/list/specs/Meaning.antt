@@ -12,7 +12,7 @@ use Rattle.list.specs.declared.Entry.{Entry}
 use Rattle.list.specs.declared.Form.{Form}
 use Rattle.list.specs.declared.Form.TheVariants.{Definite, Indefinite}
 use Rattle.list.specs.declared.Outer.{Outer}
-use Rattle.list.specs.Ber.{unsigned, length_at, entry_at, next_place, entry_id, head, walked, ended, listed_from, listed, formed, first_entry}
+use Rattle.list.specs.Ber.{unsigned, length_at, entry_at, next_place, entry_id, head, walked, ended, listed_from, listed, is_formed, first_entry}
 use Rattle.list.specs.Laws.{Sized, short-at, long-at, sized-length, sized-reach, length-sized, Seen, seen_entry, Case, there, missing, entry_case, no-tag, HeadCase, right, open-end, wrong, head-case, stuck, walked-front, walked-add}
 use Rattle.list.specs.Encoding.{IsLength, short, long, AreEntries, none, more, Encodes, definite, indefinite, short_entries, encoded}
 
@@ -186,7 +186,7 @@ module _ {d ids : List ℕ} (e : Encodes ids d) where
   encodes-listed =
       simp (seen.is, tail-ended d seen.form (walked d seen.n (length d / 4)) (walks-enough (tail seen.form) (tail-zero seen.form) seen.entries seen.rest))
 
-  pub encodes-formed : formed d ≡ true
+  pub encodes-formed : is_formed d ≡ true
   encodes-formed = ap is_some encodes-listed
 
   -- its KeySetIDs are listed from the first place on, and there are places enough
@@ -340,7 +340,7 @@ decoded-by d h (open-end t u i) f =
     indefinite-by d t u (walk-entries d (0 ∷ 0 ∷ []) (length d / 4) 2 w)
 decoded-by d h (wrong i) f = absurd (false≢true (rw i at f))
 
-pub formed-encodes : (d : List ℕ) → formed d ≡ true → Decoded d
+pub formed-encodes : (d : List ℕ) → is_formed d ≡ true → Decoded d
 unfolding listed
 formed-encodes d t = decoded-by d (head d) (head-case d) t
 
