@@ -1,5 +1,5 @@
 -- Every edge of document 01 that is marked P, and every one of T-01, T-02 and T-04, holds. Assumes nothing.
-use Rattle.std.specs.Prelude.{◌≡◌, Bool, false, cond, ◌&&◌, ℕ, zero, suc, ◌+◌, ◌-◌, ◌*◌, ◌/◌, ◌%◌, ◌<◌, ◌≤◌, eqb, get_or, take, drop}
+use Rattle.std.specs.Prelude.{◌≡◌, Bool, false, cond, ◌&&◌, Some, ℕ, zero, suc, ◌+◌, ◌-◌, ◌*◌, ◌/◌, ◌%◌, ◌<◌, ◌≤◌, eqb, get_or, take, drop}
 use Rattle.std.proofs.Math.Path.{refl, sym, ap}
 use Rattle.std.proofs.Common.{subst, ap₂, ◌∙◌, length-append, length-drop, get_or-drop, get_or-take, get_or-append-add}
 use Rattle.std.proofs.Math.Bool.{true, not}
@@ -37,7 +37,7 @@ use Rattle.frame.specs.Frame.{frame_of, initial_ins, ins_of, lc_of, known_ins, w
 use Rattle.frame.specs.Laws.{frame_byte}
 use Rattle.frame.specs.Framed.{framed-status, framed-data}
 use Rattle.frame.specs.Declines.{no_zero, pad_bytes, verdict}
-use Rattle.list.specs.Ber.{unsigned, fitting, length_at, entry_at, head, walked, ended, listed, place_count}
+use Rattle.list.specs.Ber.{unsigned, fitting, length_at, entry_at, entry_id, next_place, head, walked, ended, listed, is_formed, first_entry, place_count}
 use Rattle.list.specs.Laws.{no-FF}
 use Rattle.initial.specs.Initial.{first_slot, first_place, slot_of, accepts_initial, str1, block_of, opened_with, initial_reply}
 use Rattle.final_command.specs.Final.{text_of, deciphered_text, card_keys_hash, mode_of, accepting, accepts_final, body_of, final_reply}
@@ -218,9 +218,9 @@ holds l i k g =
 
 -- well formed data whose first entry is k
 record Names (d : List ℕ) (k : ℕ) : Type 0 where
-  formed : (listed d).formed ≡ true
+  formed : is_formed d ≡ true
   next : ℕ
-  entry : entry_at d (listed d).first ≡ record { ok = true; id = id_of k; next = next }
+  entry : entry_at d (first_entry d) ≡ Some (record { id = id_of k; next = next })
   long : 4 ≤ length d
 
 names-slot : (d : List ℕ) (k : ℕ) → Names d k → (c : Card) → first_slot 0 true (id_of k) c.sets < 8 → slot_of c d ≡ first_slot 0 true (id_of k) c.sets
@@ -228,7 +228,7 @@ unfolding slot_of first_place
 names-slot d k m c h =
     let l = m.long in
     let n : place_count d ≡ suc (place_count d - 1) = omega arith in
-    ap (first_place c.sets (listed d).formed d (listed d).first) n
+    ap (first_place c.sets (is_formed d) d (first_entry d)) n
     ∙ rw (m.formed, m.entry, ne_eqb (first_slot 0 true (id_of k) c.sets) 8 (λ z. omega arith))
 
 answers : (d : List ℕ) (k : ℕ) → Names d k → (l : Load) (j : ℕ) → Gave l j k → EachCall l (framed 0x87 d) (Answered l k (8 * (length d / 4)))
@@ -260,18 +260,18 @@ malformed : (sets : List KeySetSlot) (d : List ℕ) (p n : ℕ) → length sets 
 unfolding first_place
 malformed sets d p zero e = refl
 malformed sets d p (suc n) e =
-    rw (eq-eqb (first_slot 0 false (entry_at d p).id sets) 8 (omega (arith, slot-missing 0 (entry_at d p).id sets))) (malformed sets d (entry_at d p).next n e)
+    rw (eq-eqb (first_slot 0 false (entry_id (entry_at d p)) sets) 8 (omega (arith, slot-missing 0 (entry_id (entry_at d p)) sets))) (malformed sets d (next_place p (entry_at d p)) n e)
 
-malformed-refused : (d : List ℕ) → (listed d).formed ≡ false → (c : Card) → length c.sets ≡ 8 → accepts_initial c d ≡ false
+malformed-refused : (d : List ℕ) → is_formed d ≡ false → (c : Card) → length c.sets ≡ 8 → accepts_initial c d ≡ false
 unfolding slot_of
-malformed-refused d f c e = rw (f, malformed c.sets d (listed d).first (place_count d) e)
+malformed-refused d f c e = rw (f, malformed c.sets d (first_entry d) (place_count d) e)
 
 -- an empty list has no entry
 none-edge : OfAll (λ l. EachCall l (framed 0x87 (0x30 ∷ 0 ∷ [])) (Refused l 0))
 unfolding status_of whole frame_of data_of part slot_of first_place
 none-edge = refuses (0x30 ∷ 0 ∷ []) (record { frames = record { status = refl; data_is = refl }; slot = λ c e. refl })
 
-ill-edge : (d : List ℕ) → 0 < length d → (listed d).formed ≡ false → OfAll (λ l. EachCall l (framed 0x87 d) (Refused l (8 * (length d / 4))))
+ill-edge : (d : List ℕ) → 0 < length d → is_formed d ≡ false → OfAll (λ l. EachCall l (framed 0x87 d) (Refused l (8 * (length d / 4))))
 ill-edge d h f = refuses d (record { frames = frames-any 0x87 d refl h; slot = malformed-refused d f })
 
 none-80-edge : OfAll (λ l. EachCall l (framed 0x87 (0x30 ∷ 0x80 ∷ 0 ∷ 0 ∷ [])) (Refused l 8))
@@ -281,7 +281,7 @@ none-80-edge =
     refuses d (record { frames = frames-any 0x87 d refl (omega arith); slot = λ c e. let q : first_slot 0 false (id_of 0) c.sets ≡ 8 = omega (arith, slot-missing 0 (id_of 0) c.sets) in rw q })
 
 -- whatever stands behind FF
-ff-formed : (d : List ℕ) → (listed (0x30 ∷ 0xFF ∷ d)).formed ≡ false
+ff-formed : (d : List ℕ) → is_formed (0x30 ∷ 0xFF ∷ d) ≡ false
 unfolding listed
 ff-formed d = rw (no-FF (0x30 ∷ 0xFF ∷ d) refl)
 

@@ -1,12 +1,12 @@
 -- The counts and the length of an initial command's reply. Assumes nothing.
-use Rattle.std.specs.Prelude.{◌≡◌, refl, Bool, true, false, cond, ◌&&◌, List, [], ◌∷◌, ◌++◌, ℕ, zero, suc, ◌+◌, ◌*◌, ◌≤◌, eqb, length, get_or}
+use Rattle.std.specs.Prelude.{◌≡◌, refl, Bool, true, false, cond, ◌&&◌, is_some, List, [], ◌∷◌, ◌++◌, ℕ, zero, suc, ◌+◌, ◌*◌, ◌≤◌, eqb, length, get_or}
 use Rattle.std.proofs.Common.{ap, ◌∙◌, arith, length-append}
 use Rattle.octets.specs.Lists.{part, length_part}
 use Rattle.work.specs.Steps.{comparison, counted}
 use Rattle.work.specs.Laws.{counted-append, times_none, times_more}
 use Rattle.frame.specs.Declines.{pad_bytes}
 use Rattle.frame.specs.Laws.{length-pads}
-use Rattle.list.specs.Ber.{entry_at, place_count, listed}
+use Rattle.list.specs.Ber.{entry_at, entry_id, next_place, place_count, is_formed, first_entry}
 use Rattle.plaid_types.specs.Keys.{key_length_of, str1_length}
 use Rattle.plaid_types.specs.KeyLaws.{lawful-most, length-wide, str1-most}
 use Rattle.plaid_types.specs.Cards.{no_set}
@@ -31,8 +31,8 @@ counted-places k sets formed d p zero l = none (eqb comparison k)
     none true = refl
     none false = refl
 counted-places k sets formed d p (suc n) l =
-    counted-append k (slot_steps (formed && (entry_at d p).ok) (entry_at d p).id sets) (place_steps sets formed d (entry_at d p).next n)
-    ∙ rw (counted-slots k (formed && (entry_at d p).ok) (entry_at d p).id sets, l, counted-places k sets formed d (entry_at d p).next n l) (more (eqb comparison k) n)
+    counted-append k (slot_steps (formed && is_some (entry_at d p)) (entry_id (entry_at d p)) sets) (place_steps sets formed d (next_place p (entry_at d p)) n)
+    ∙ rw (counted-slots k (formed && is_some (entry_at d p)) (entry_id (entry_at d p)) sets, l, counted-places k sets formed d (next_place p (entry_at d p)) n l) (more (eqb comparison k) n)
   where
     more : (t : Bool) (n : ℕ) → 8 * cond t 1 0 + 8 * n * cond t 1 0 ≡ 8 * suc n * cond t 1 0
     more true n = omega arith
@@ -49,7 +49,7 @@ initial-steps c d fresh = reply-steps c d fresh (accepts_initial c d)
 -- "Initial: 8 times floor(Lc/4) comparisons, the rest 0."
 pub initial-counted : (k : ℕ) (c : Card) (d fresh : List ℕ) → length c.sets ≡ 8 → counted k (initial_reply c d fresh).steps ≡ 8 * place_count d * of-kind k
 unfolding initial_steps
-initial-counted k c d fresh l = ap (counted k) (initial-steps c d fresh) ∙ counted-places k c.sets (listed d).formed d (listed d).first (place_count d) l
+initial-counted k c d fresh l = ap (counted k) (initial-steps c d fresh) ∙ counted-places k c.sets (is_formed d) d (first_entry d) (place_count d) l
 
 pub length-str1 : (l : ℕ) (id : KeySetId) (div rnd1 : List ℕ) → length div ≡ 16 → length rnd1 ≡ l → length (str1 id div rnd1) ≡ str1_length l
 unfolding str1 str1_length

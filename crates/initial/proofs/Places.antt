@@ -11,7 +11,8 @@ use Rattle.work.specs.Steps.{Step, comparison, counted, sum_from}
 use Rattle.work.specs.Laws.{sum_from-append, counted-append}
 use Rattle.steps.specs.Made.{set_comparison}
 use Rattle.steps.specs.Laws.{kept-start, kept-last}
-use Rattle.list.specs.Ber.{entry_at}
+use Rattle.std.specs.Prelude.{Option, Some, None, is_some, unwrap_or}
+use Rattle.list.specs.Ber.{entry_at, entry_id, next_place}
 use Rattle.list.specs.declared.Entry.{Entry}
 use Rattle.plaid_types.specs.declared.KeySetId.{KeySetId}
 use Rattle.plaid_types.specs.declared.KeySetSlot.{KeySetSlot}
@@ -48,25 +49,25 @@ slot-missing v w i (k ∷ sets) = slot-missing v w (suc i) sets
 places-missing : (sets : List KeySetSlot) (d : List ℕ) (p q n : ℕ) → place_steps sets false d p n ≡ place_steps sets false d q n
 unfolding place_steps
 places-missing sets d p q zero = refl
-places-missing sets d p q (suc n) = ap₂ ◌++◌ (slots-missing (entry_at d p).id (entry_at d q).id sets) (places-missing sets d (entry_at d p).next (entry_at d q).next n)
+places-missing sets d p q (suc n) = ap₂ ◌++◌ (slots-missing (entry_id (entry_at d p)) (entry_id (entry_at d q)) sets) (places-missing sets d (next_place p (entry_at d p)) (next_place q (entry_at d q)) n)
 
 place-missing : (sets : List KeySetSlot) (d : List ℕ) (p q n : ℕ) → first_place sets false d p n ≡ first_place sets false d q n
 unfolding first_place
 place-missing sets d p q zero = refl
 place-missing sets d p q (suc n) =
-    ap₂ (λ (x y : ℕ). cond (eqb x 8) y x) (slot-missing (entry_at d p).id (entry_at d q).id 0 sets) (place-missing sets d (entry_at d p).next (entry_at d q).next n)
+    ap₂ (λ (x y : ℕ). cond (eqb x 8) y x) (slot-missing (entry_id (entry_at d p)) (entry_id (entry_at d q)) 0 sets) (place-missing sets d (next_place p (entry_at d p)) (next_place q (entry_at d q)) n)
 
-pub places-from : (sets : List KeySetSlot) (formed : Bool) (d : List ℕ) (p q n : ℕ) → places_found sets formed d (cond formed p q) n ≡ places_found sets formed d p n
-places-from sets true d p q n = refl
-places-from sets false d p q n = rw (places-missing sets d q p n, place-missing sets d q p n)
+pub places-from : (sets : List KeySetSlot) (o : Option ℕ) (d : List ℕ) (q n : ℕ) → places_found sets (is_some o) d (unwrap_or o q) n ≡ places_found sets (is_some o) d (unwrap_or o 0) n
+places-from sets (Some p) d q n = refl
+places-from sets None d q n = rw (places-missing sets d q 0 n, place-missing sets d q 0 n)
 
 module _ (sets : List KeySetSlot) (formed : Bool) (d : List ℕ) where
-  steps_next : (p m : ℕ) → place_steps sets formed d p (suc m) ≡ slot_steps (formed && (entry_at d p).ok) (entry_at d p).id sets ++ place_steps sets formed d (entry_at d p).next m
+  steps_next : (p m : ℕ) → place_steps sets formed d p (suc m) ≡ slot_steps (formed && is_some (entry_at d p)) (entry_id (entry_at d p)) sets ++ place_steps sets formed d (next_place p (entry_at d p)) m
   unfolding place_steps
   steps_next p m = refl
 
   first_next : (p m : ℕ) → first_place sets formed d p (suc m) ≡
-      cond (eqb (first_slot 0 (formed && (entry_at d p).ok) (entry_at d p).id sets) 8) (first_place sets formed d (entry_at d p).next m) (first_slot 0 (formed && (entry_at d p).ok) (entry_at d p).id sets)
+      cond (eqb (first_slot 0 (formed && is_some (entry_at d p)) (entry_id (entry_at d p)) sets) 8) (first_place sets formed d (next_place p (entry_at d p)) m) (first_slot 0 (formed && is_some (entry_at d p)) (entry_id (entry_at d p)) sets)
   unfolding first_place
   first_next p m = refl
 
@@ -82,24 +83,24 @@ module _ (sets : List KeySetSlot) (formed : Bool) (d : List ℕ) where
 
   -- a turn, where the entry at p is already named e
   turn :
-      {p₀ n p j first count s : ℕ} (e : Entry) (f : Found)
+      {p₀ n p j first count s : ℕ} (e : Option Entry) (f : Found)
       → length sets ≡ 8
       → j < n
       → e ≡ entry_at d p
-      → f ≡ slots_found (formed && e.ok) e.id sets s
+      → f ≡ slots_found (formed && is_some e) (entry_id e) sets s
       → PlacesDone sets formed d p₀ n p j first count s
-      → PlacesDone sets formed d p₀ n e.next (j + 1) (cond (eqb first 8) f.at first) (count + f.count) f.sum
+      → PlacesDone sets formed d p₀ n (next_place p e) (j + 1) (cond (eqb first 8) f.at first) (count + f.count) f.sum
   turn {p₀} {n} {p} {j} {first} {count} {s} e f l h en fn q =
       let k : n - j ≡ suc (n - (j + 1)) = omega arith in
-      let now : List Step = slot_steps (formed && e.ok) e.id sets in
-      let rest : List Step = place_steps sets formed d e.next (n - (j + 1)) in
+      let now : List Step = slot_steps (formed && is_some e) (entry_id e) sets in
+      let rest : List Step = place_steps sets formed d (next_place p e) (n - (j + 1)) in
       let split : place_steps sets formed d p (n - j) ≡ now ++ rest =
       ap (place_steps sets formed d p) k ∙ steps_next p (n - (j + 1)) ∙ rw en in
-      let found : ℕ = first_slot 0 (formed && e.ok) e.id sets in
-      let more : ℕ = first_place sets formed d e.next (n - (j + 1)) in
+      let found : ℕ = first_slot 0 (formed && is_some e) (entry_id e) sets in
+      let more : ℕ = first_place sets formed d (next_place p e) (n - (j + 1)) in
       let look : first_place sets formed d p (n - j) ≡ cond (eqb found 8) more found =
       ap (first_place sets formed d p) k ∙ first_next p (n - (j + 1)) ∙ rw en in
-      let eight : f.count ≡ 8 = count-slots (formed && e.ok) e.id s sets l fn in
+      let eight : f.count ≡ 8 = count-slots (formed && is_some e) (entry_id e) s sets l fn in
       record {
         reach = omega arith;
         few = omega (arith, q.few);
@@ -121,17 +122,19 @@ module _ (sets : List KeySetSlot) (formed : Bool) (d : List ℕ) where
       }
 
   pub places-turn :
-      {p₀ n p j first count s next : ℕ} {present : Bool} {e : Entry} {f : Found}
+      {p₀ n p j first count s next place : ℕ} {present : Bool} {v : KeySetId} {e : Option Entry} {f : Found}
       → length sets ≡ 8
       → j < n
       → PlacesDone sets formed d p₀ n p j first count s
       → e ≡ entry_at d p
-      → present ≡ (formed && e.ok)
-      → f ≡ slots_found present e.id sets s
+      → present ≡ (formed && is_some e)
+      → v ≡ entry_id e
+      → f ≡ slots_found present v sets s
       → next ≡ cond (eqb first 8) f.at first
-      → PlacesDone sets formed d p₀ n e.next (j + 1) next (count + f.count) f.sum
-  places-turn {p₀} {n} {p} {j} {first} {count} {s} {next} {present} {e} {f} l h q en pn fn g =
-      rw g (turn e f l h en (fn ∙ ap (λ (b : Bool). slots_found b e.id sets s) pn) q)
+      → place ≡ next_place p e
+      → PlacesDone sets formed d p₀ n place (j + 1) next (count + f.count) f.sum
+  places-turn {p₀} {n} {p} {j} {first} {count} {s} {next} {place} {present} {v} {e} {f} l h q en pn vn fn g w =
+      rw (g, w) (turn e f l h en (fn ∙ ap₂ (λ (b : Bool) (i : KeySetId). slots_found b i sets s) pn vn) q)
 
   pub places-end :
       {p₀ n p j first count s : ℕ}

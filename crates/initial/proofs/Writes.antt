@@ -1,8 +1,9 @@
 -- Writes one behind the other, as one: those of the head and of STR1. Assumes nothing.
 use mathlib.Core.Path.{◌≡◌, refl, ap, ◌∙◌}
 use mathlib.Core.List.{List, [], ◌∷◌, ◌++◌, append_assoc}
-use Prim.Native.Nat.{ℕ, ◌+◌, ◌-◌, ◌/◌, ◌%◌, ◌≤◌}
+use Prim.Native.Nat.{ℕ, ◌+◌, ◌-◌, ◌/◌, ◌%◌, ◌<◌, ◌≤◌}
 use native.Mathlib.Omega.{arith}
+use Rattle.std.specs.Int.{to_be_bytes, w16}
 use lib.ListN.{length, take, drop, length-append, length-drop}
 use lib.Seq.{take_all}
 use Rattle.octets.specs.Lists.{over}
@@ -14,6 +15,10 @@ use Rattle.plaid_types.specs.KeyLaws.{str1-most}
 use Rattle.plaid_types.specs.declared.KeySetId.{KeySetId}
 use Rattle.initial.specs.Initial.{str1}
 use Rattle.initial.specs.Told.{head_of}
+
+-- the two bytes of a u16
+pub two-bytes : (n : ℕ) → n < 65536 → to_be_bytes w16 n ≡ n / 256 ∷ n % 256 ∷ []
+two-bytes n h = ap (λ (b : ℕ). b ∷ n % 256 ∷ []) (omega arith)
 
 -- all from place n on
 pub take_drop_all : (n : ℕ) (l : List ℕ) → take (length l - n) (drop n l) ≡ drop n l

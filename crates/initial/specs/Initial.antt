@@ -1,10 +1,10 @@
 -- Document 01, "Initial", with T-04 and T-07 of document 02.
-use Rattle.std.specs.Prelude.{Bool, true, cond, ◌&&◌, List, [], ◌∷◌, ◌++◌, ℕ, zero, suc, ◌/◌, ◌%◌, eqb, ltb, get_or}
+use Rattle.std.specs.Prelude.{Bool, true, cond, ◌&&◌, is_some, List, [], ◌∷◌, ◌++◌, ℕ, zero, suc, ◌/◌, ◌%◌, eqb, ltb, get_or}
 use Rattle.octets.specs.Lists.{part}
 use Rattle.work.specs.Steps.{Step}
 use Rattle.steps.specs.Made.{set_matched, set_comparison}
 use Rattle.frame.specs.Declines.{pad_bytes}
-use Rattle.list.specs.Ber.{entry_at, place_count, listed}
+use Rattle.list.specs.Ber.{entry_at, entry_id, next_place, place_count, is_formed, first_entry}
 use Rattle.plaid_types.specs.Keys.{key_length_of, wide, str1_length}
 use Rattle.plaid_types.specs.Cards.{no_session, no_set, Reply}
 use Rattle.plaid_types.specs.declared.KeySetId.{KeySetId}
@@ -25,22 +25,22 @@ first_slot i present v (k ∷ ks) = cond (set_matched present v k.held k.id) i (
 -- the n places from place p of the data on: "empty slots and missing places included, which never match; a malformed list has only missing places"
 unfoldable pub place_steps : List KeySetSlot → Bool → List ℕ → ℕ → ℕ → List Step
 place_steps sets formed d p zero = []
-place_steps sets formed d p (suc n) = slot_steps (formed && (entry_at d p).ok) (entry_at d p).id sets ++ place_steps sets formed d (entry_at d p).next n
+place_steps sets formed d p (suc n) = slot_steps (formed && is_some (entry_at d p)) (entry_id (entry_at d p)) sets ++ place_steps sets formed d (next_place p (entry_at d p)) n
 
 -- "the first entry that the card holds wins": its slot, or 8
 unfoldable pub first_place : List KeySetSlot → Bool → List ℕ → ℕ → ℕ → ℕ
 first_place sets formed d p zero = 8
 first_place sets formed d p (suc n) =
-    cond (eqb (first_slot 0 (formed && (entry_at d p).ok) (entry_at d p).id sets) 8)
-    (first_place sets formed d (entry_at d p).next n)
-    (first_slot 0 (formed && (entry_at d p).ok) (entry_at d p).id sets)
+    cond (eqb (first_slot 0 (formed && is_some (entry_at d p)) (entry_id (entry_at d p)) sets) 8)
+    (first_place sets formed d (next_place p (entry_at d p)) n)
+    (first_slot 0 (formed && is_some (entry_at d p)) (entry_id (entry_at d p)) sets)
 
 -- "Exactly floor(Lc/4) places are compared"
 unfoldable pub initial_steps : Card → List ℕ → List Step
-initial_steps c d = place_steps c.sets (listed d).formed d (listed d).first (place_count d)
+initial_steps c d = place_steps c.sets (is_formed d) d (first_entry d) (place_count d)
 
 unfoldable pub slot_of : Card → List ℕ → ℕ
-slot_of c d = first_place c.sets (listed d).formed d (listed d).first (place_count d)
+slot_of c d = first_place c.sets (is_formed d) d (first_entry d) (place_count d)
 
 -- "Refused (malformed or no match)"
 abbrev pub accepts_initial : Card → List ℕ → Bool

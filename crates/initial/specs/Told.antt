@@ -2,7 +2,7 @@
 use Rattle.std.specs.Prelude.{Bool, List, [], ◌∷◌, ◌++◌, ℕ, length}
 use Rattle.work.specs.Steps.{comparison, counted, sum_from, work_sum}
 use Rattle.frame.specs.Declines.{pad_bytes}
-use Rattle.list.specs.Ber.{place_count, listed}
+use Rattle.list.specs.Ber.{place_count, is_formed, first_entry}
 use Rattle.plaid_types.specs.Cards.{Reply}
 use Rattle.plaid_types.specs.declared.KeySetId.{KeySetId}
 use Rattle.plaid_types.specs.declared.KeySetSlot.{KeySetSlot}
@@ -30,7 +30,7 @@ places_found sets formed d p n =
 
 -- of all the places of the data
 abbrev pub data_found : List KeySetSlot → List ℕ → Found
-data_found sets d = places_found sets (listed d).formed d (listed d).first (place_count d)
+data_found sets d = places_found sets (is_formed d) d (first_entry d) (place_count d)
 
 -- what the block has before STR1: "00 02, the pad bytes, 00"
 abbrev pub head_of : ℕ → List ℕ → List ℕ

@@ -1,17 +1,19 @@
 //! The initial command: the places of its list against the key sets of a card, and the block that answers it.
 #![tactic(auto)]
 
-ghost use Rattle.std.specs.Prelude.{◌≡◌, cond, ◌-◌, ◌<◌, ◌≤◌, eqb, length};
+ghost use Rattle.std.specs.Prelude.{◌≡◌, cond, ◌-◌, ◌<◌, ◌≤◌, eqb, length, unwrap_or};
 ghost use Rattle.octets.specs.Lists.{part, over};
 ghost use Rattle.plaid_types.specs.Keys.{str1_length};
 ghost use Rattle.frame.specs.Declines.{pad_bytes};
+ghost use Rattle.list.specs.Ber.{entry_id, next_place};
 ghost use Rattle.initial.specs.Initial.{str1, opened_with, initial_reply};
 ghost use Rattle.initial.specs.Told.{slots_found, data_found, head_of, told_initial};
 
-use list::Listed;
+use list::{Cursor, Entry};
 use plaid_types::{Answer, Card, KeySetId, KeySetSlot, Session};
 
-// Where the first match is (8: none), how many comparisons there were, and the work sum after them.
+// Where the first match is, how many comparisons there were, and the work sum after them.
+// `at` is 8 for none: `steps::keep` works with that number, in as many instructions whatever it finds.
 #[derive(Clone, Copy)]
 pub struct Found {
     pub at: usize,
@@ -26,21 +28,13 @@ fn compare_slots(sets: [KeySetSlot; Card::KEY_SETS], present: bool, v: KeySetId,
     let mut at = Card::KEY_SETS;
     let mut s = sum;
     let mut count: usize = 0;
-    let mut i: usize = 0;
-    while i < Card::KEY_SETS {
-        let k = sets[i];
-        let w = k.id;
-        let c = steps::compare_sets(present, v, k.held, w, s);
+    for (i, k) in sets.iter().enumerate() {
+        let c = steps::compare_sets(present, v, k.held, k.id, s);
         s = c.sum;
         count += c.count;
         at = steps::keep(Card::KEY_SETS, at, i, c.hit);
-        i += 1;
     }
-    Found {
-        at: at,
-        count: count,
-        sum: s,
-    }
+    Found { at, count, sum: s }
 }
 
 // The first entry that the card holds wins, not the first slot.
@@ -50,11 +44,25 @@ fn first_of(at: usize, f: usize) -> usize
     if at == Card::KEY_SETS { f } else { at }
 }
 
-// Where the look for entries starts: for a malformed list, which has only missing places, behind the data, where none is read.
-fn first_place(l: Listed, end: usize) -> usize
-    ensures { result ≡ cond l.formed l.first end }
+// Where the look for entries starts: for a malformed list, which has only missing places, after the data, where none is read.
+fn first_place(first: Option<usize>, end: usize) -> usize
+    ensures { result ≡ unwrap_or first end }
 {
-    if l.formed { l.first } else { end }
+    first.unwrap_or(end)
+}
+
+// The KeySetID of a place; 0 for a missing one, which never matches.
+fn id_of(e: Option<Entry>) -> KeySetId
+    ensures { result ≡ entry_id e }
+{
+    e.map_or(KeySetId(0), |e| e.id)
+}
+
+// The place after an entry; a missing one is not passed.
+fn place_after(e: Option<Entry>, at: usize) -> usize
+    ensures { result ≡ next_place at e }
+{
+    e.map_or(at, |e| e.next)
 }
 
 // Every place of the list against every slot, missing places and empty slots too.
@@ -62,28 +70,24 @@ fn compare_places(sets: [KeySetSlot; Card::KEY_SETS], d: &[u8]) -> Found
     requires { length d.now < 256 }
     ensures { result ≡ data_found sets d.now }
 {
-    let l = list::parse(d);
-    let mut p = first_place(l, d.len());
+    let first = list::parse(d);
+    let formed = first.is_some();
+    let mut p = first_place(first, d.len());
     let n = d.len() / 4;
     let mut at = Card::KEY_SETS;
     let mut s: u32 = 0;
     let mut count: usize = 0;
-    let mut j: usize = 0;
-    while j < n {
-        let e = list::step_from(d, p);
-        let id = e.id;
-        let f = compare_slots(sets, octets::both(l.formed, e.ok), id, s);
+    for _ in 0..n {
+        let c = Cursor { list: d, at: p };
+        let e = c.step();
+        let present = e.is_some();
+        let f = compare_slots(sets, octets::both(formed, present), id_of(e), s);
         s = f.sum;
         count += f.count;
         at = first_of(at, f.at);
-        p = e.next;
-        j += 1;
+        p = place_after(e, p);
     }
-    Found {
-        at: at,
-        count: count,
-        sum: s,
-    }
+    Found { at, count, sum: s }
 }
 
 // The fresh bytes behind F.
@@ -121,7 +125,7 @@ fn str1(id: KeySetId, div: [u8; 16], rnd1: &[u8], out: &mut [u8])
     ensures { out.new ≡ over out.old (256 - str1_length (length rnd1.now)) (str1 id div rnd1.now) }
 {
     let at = text_at(rnd1.len());
-    let number = [(id.0 / 256) as u8, (id.0 % 256) as u8];
+    let number = id.0.to_be_bytes();
     octets::copy_at(out, at, &number);
     octets::copy_at(out, at + 2, &div);
     octets::copy_at(out, at + 18, rnd1);

@@ -1,7 +1,7 @@
 -- Well formed data are just the encodings of lists of KeySetIDs: floor(Lc/4) turns are enough to walk each, and the walk finds each KeySetID in its place.
 -- Assumes nothing.
-use Rattle.std.specs.Prelude.{◌≡◌, refl, Bool, true, false, ◌&&◌, List, [], ◌∷◌, ◌++◌, ℕ, zero, suc, ◌+◌, ◌*◌, ◌-◌, ◌/◌, ◌%◌, ◌<◌, ◌≤◌, eqb, length, get_or, take, drop}
-use Rattle.std.proofs.Common.{sym, ap₂, ◌∙◌, true≢false, append_assoc, append-nil, add-one, arith, eq-eqb, ne_eqb, eqb-true, length-append, length-drop, take-append-drop, drop-cons, drop-drop, get_or-drop}
+use Rattle.std.specs.Prelude.{◌≡◌, refl, Bool, true, false, cond, Option, Some, None, is_some, List, [], ◌∷◌, ◌++◌, ℕ, zero, suc, ◌+◌, ◌*◌, ◌-◌, ◌/◌, ◌%◌, ◌<◌, ◌≤◌, eqb, length, get_or, take, drop}
+use Rattle.std.proofs.Common.{sym, ap₂, ◌∙◌, append_assoc, append-nil, add-one, arith, eq-eqb, ne_eqb, eqb-true, length-append, length-drop, take-append-drop, drop-cons, drop-drop, get_or-drop}
 use Rattle.std.proofs.Math.Path.{ap, subst⁻¹}
 use Rattle.std.proofs.Math.Bool.{and-eq-true_iff}
 use Rattle.std.proofs.lemmas.Bool.{false≢true}
@@ -9,8 +9,10 @@ use Rattle.std.proofs.Math.Seq.{drop-length, drop-append_seam, take-append_seam}
 use Rattle.octets.specs.Bytes.{Bytes}
 use Rattle.octets.specs.Lists.{part, length_part}
 use Rattle.list.specs.declared.Entry.{Entry}
+use Rattle.list.specs.declared.Form.{Form}
+use Rattle.list.specs.declared.Form.TheVariants.{Definite, Indefinite}
 use Rattle.list.specs.declared.Outer.{Outer}
-use Rattle.list.specs.Ber.{unsigned, length_at, no_entry, entry_at, head, walked, ended, listed}
+use Rattle.list.specs.Ber.{unsigned, length_at, entry_at, next_place, entry_id, head, walked, ended, listed_from, listed, is_formed, first_entry}
 use Rattle.list.specs.Laws.{Sized, short-at, long-at, sized-length, sized-reach, length-sized, Seen, seen_entry, Case, there, missing, entry_case, no-tag, HeadCase, right, open-end, wrong, head-case, stuck, walked-front, walked-add}
 use Rattle.list.specs.Encoding.{IsLength, short, long, AreEntries, none, more, Encodes, definite, indefinite, short_entries, encoded}
 
@@ -65,7 +67,7 @@ length_seen {d} {b} {r} {p} {v} (long s z l u) f a =
 -- the bytes of an entry are an entry where they stand
 record EntrySeen (d : List ℕ) (p k : ℕ) (r : List ℕ) : Type 0 where
   pub n : ℕ
-  pub is : entry_at d p ≡ record { ok = true; id = record { 0 = k }; next = n }
+  pub is : entry_at d p ≡ Some (record { id = record { 0 = k }; next = n })
   pub rest : At d n r
 
 entry_seen : {d b r : List ℕ} {p k high low : ℕ} → k ≡ high * 256 + low → IsLength 2 (high ∷ low ∷ r) b → At d p (4 ∷ b) → EntrySeen d p k r
@@ -78,7 +80,7 @@ entry_seen {d} {b} {r} {p} {k} {high} {low} q l a =
     let i : get_or d s.n 0 * 256 + get_or d (s.n + 1) 0 ≡ k = rw (x.byte, y.byte) (sym q) in
     record {
       n = s.n + 2;
-      is = seen_entry (record { tag = t.byte; sized = s.sized }) ∙ ap (λ (j : ℕ). record { ok = true; id = record { 0 = j }; next = s.n + 2 }) i;
+      is = seen_entry (record { tag = t.byte; sized = s.sized }) ∙ ap (λ (j : ℕ). Some (record { id = record { 0 = j }; next = s.n + 2 })) i;
       rest = rw e at y.rest;
     }
 
@@ -98,11 +100,11 @@ entries-long (more q l e) = omega (arith, length-long l, entries-long e)
 
 -- from place p on stand the entries of the KeySetIDs, one behind the other, and behind the last there is none
 pub data Lists (d : List ℕ) : ℕ → List ℕ → Type 0 where
-  ends : {p : ℕ} → entry_at d p ≡ no_entry p → Lists d p []
-  goes_on : {p n k : ℕ} {ids : List ℕ} → entry_at d p ≡ record { ok = true; id = record { 0 = k }; next = n } → Lists d n ids → Lists d p (k ∷ ids)
+  ends : {p : ℕ} → entry_at d p ≡ None → Lists d p []
+  goes_on : {p n k : ℕ} {ids : List ℕ} → entry_at d p ≡ Some (record { id = record { 0 = k }; next = n }) → Lists d n ids → Lists d p (k ∷ ids)
 
 -- where the entries end, with the data or with two zero bytes, no entry stands
-end-missing : {d t : List ℕ} {p : ℕ} → At d p t → get_or t 0 0 ≡ 0 → entry_at d p ≡ no_entry p
+end-missing : {d t : List ℕ} {p : ℕ} → At d p t → get_or t 0 0 ≡ 0 → entry_at d p ≡ None
 end-missing {d} {t} {p} a z =
     let e : get_or d (p + 0) 0 ≡ 0 = sym (get_or-drop p d 0 0) ∙ ap (λ (x : List ℕ). get_or x 0 0) a.rest ∙ z in
     let q : p + 0 ≡ p = omega arith in
@@ -119,7 +121,7 @@ module _ {d : List ℕ} (t : List ℕ) (z : get_or t 0 0 ≡ 0) where
   walks-end none a = a
   walks-end {p = p} (more {ids = ids} q l e) a =
       let s = entry_seen q (length-then t l) a in
-      rw (walked-front d p (length ids) ∙ ap (λ (x : Entry). walked d x.next (length ids)) s.is) (walks-end e s.rest)
+      rw (walked-front d p (length ids) ∙ ap (λ (x : Option Entry). walked d (next_place p x) (length ids)) s.is) (walks-end e s.rest)
 
   -- so as many turns as there are entries are enough, and more do no harm
   walks-enough : {b ids : List ℕ} {p : ℕ} → AreEntries ids b → At d p (b ++ t) → At d (walked d p (length d / 4)) t
@@ -127,33 +129,32 @@ module _ {d : List ℕ} (t : List ℕ) (z : get_or t 0 0 ≡ 0) where
       let k : ℕ = length d / 4 - length ids in
       let q : length d / 4 ≡ length ids + k = omega (arith, entries-long e, at_length a, length-append b t) in
       let w = walks-end e a in
-      let m = ap (λ (x : Entry). x.ok) (end-missing w z) in
-      let s : walked d p (length d / 4) ≡ walked d p (length ids) = ap (walked d p) q ∙ walked-add d p (length ids) k ∙ stuck d (walked d p (length ids)) m k in
+      let s : walked d p (length d / 4) ≡ walked d p (length ids) = ap (walked d p) q ∙ walked-add d p (length ids) k ∙ stuck d (walked d p (length ids)) (end-missing w z) k in
       rw s w
 
 -- what stands behind the entries: nothing, or the end-of-contents octets
-abbrev tail : Bool → List ℕ
-tail true = []
-tail false = 0 ∷ 0 ∷ []
+abbrev tail : Form → List ℕ
+tail Definite = []
+tail Indefinite = 0 ∷ 0 ∷ []
 
-tail-zero : (f : Bool) → get_or (tail f) 0 0 ≡ 0
-tail-zero true = refl
-tail-zero false = refl
+tail-zero : (f : Form) → get_or (tail f) 0 0 ≡ 0
+tail-zero Definite = refl
+tail-zero Indefinite = refl
 
-tail-ended : (d : List ℕ) (f : Bool) (p : ℕ) → At d p (tail f) → ended d f p ≡ true
+tail-ended : (d : List ℕ) (f : Form) (p : ℕ) → At d p (tail f) → ended d f p ≡ true
 unfolding ended
-tail-ended d true p a = let l = at_length a in eq-eqb p (length d) (omega arith)
-tail-ended d false p a =
+tail-ended d Definite p a = let l = at_length a in eq-eqb p (length d) (omega arith)
+tail-ended d Indefinite p a =
     let l = at_length a in
     let x = at-cons a in
     simp (eq-eqb (p + 2) (length d) (omega arith), x.byte, (at-cons x.rest).byte)
 
 -- the head of an encoding is right, and its entries follow
 record HeadSeen (d ids : List ℕ) : Type 0 where
-  pub form : Bool
+  pub form : Form
   pub r : List ℕ
   pub n : ℕ
-  pub is : head d ≡ record { ok = true; definite = form; first = n }
+  pub is : head d ≡ Some (record { form = form; first = n })
   pub rest : At d n (r ++ tail form)
   pub entries : AreEntries ids r
 
@@ -161,7 +162,7 @@ no-80 : {d : List ℕ} {p v n : ℕ} → Sized d p v n → get_or d p 0 ≡ 0x80
 no-80 (short-at e l q f) z = omega arith
 no-80 (long-at m e h l u q f) z = omega arith
 
-head_at : (d : List ℕ) (v n : ℕ) → get_or d 0 0 ≡ 0x30 → Sized d 1 v n → n + v ≡ length d → head d ≡ record { ok = true; definite = true; first = n }
+head_at : (d : List ℕ) (v n : ℕ) → get_or d 0 0 ≡ 0x30 → Sized d 1 v n → n + v ≡ length d → head d ≡ Some (record { form = Definite; first = n })
 unfolding head
 head_at d v n t s q = simp (t, ne_eqb (get_or d 1 0) 0x80 (no-80 s), sized-length s, eq-eqb (n + v) (length d) q)
 
@@ -172,23 +173,25 @@ head-seen {d} {ids} (definite {r} {b} l e) =
     let t = at-cons a in
     let s = length_seen l (omega arith) t.rest in
     let h = head_at (0x30 ∷ b) (length r) s.n t.byte s.sized (sym (at_length s.rest)) in
-    record { form = true; r = r; n = s.n; is = h; rest = rw append-nil s.rest; entries = e }
-head-seen {d} {ids} (indefinite {r} e) = record { form = false; r = r; n = 2; is = refl; rest = record { start = omega arith; rest = refl }; entries = e }
+    record { form = Definite; r = r; n = s.n; is = h; rest = rw append-nil s.rest; entries = e }
+head-seen {d} {ids} (indefinite {r} e) = record { form = Indefinite; r = r; n = 2; is = refl; rest = record { start = omega arith; rest = refl }; entries = e }
 
 module _ {d ids : List ℕ} (e : Encodes ids d) where
   abbrev seen : HeadSeen d ids
   seen = head-seen e
 
-  -- an encoding is well formed
-  pub encodes-formed : (listed d).formed ≡ true
+  -- an encoding is well formed, and its entries start after its head
+  encodes-listed : listed d ≡ Some seen.n
   unfolding listed
-  encodes-formed =
+  encodes-listed =
       simp (seen.is, tail-ended d seen.form (walked d seen.n (length d / 4)) (walks-enough (tail seen.form) (tail-zero seen.form) seen.entries seen.rest))
 
+  pub encodes-formed : is_formed d ≡ true
+  encodes-formed = ap is_some encodes-listed
+
   -- its KeySetIDs are listed from the first place on, and there are places enough
-  pub encodes-lists : Lists d (listed d).first ids
-  unfolding listed
-  encodes-lists = rw seen.is (lists (tail seen.form) (tail-zero seen.form) seen.entries seen.rest)
+  pub encodes-lists : Lists d (first_entry d) ids
+  encodes-lists = rw encodes-listed (lists (tail seen.form) (tail-zero seen.form) seen.entries seen.rest)
 
   pub encodes-few : length ids ≤ length d / 4
   encodes-few = omega (arith, entries-long seen.entries, at_length seen.rest, length-append seen.r (tail seen.form))
@@ -275,10 +278,10 @@ entry_more d t p m s e =
     entry-cons (get_or d m 0) (get_or d (m + 1) 0) q (length_front (get_or d m 0 ∷ get_or d (m + 1) 0 ∷ e.front) t l) e.are
 
 entries_by :
-    (d t : List ℕ) (n p : ℕ) (e : Entry)
+    (d t : List ℕ) (n p : ℕ) (e : Option Entry)
     → ((q : ℕ) → drop (walked d q n) d ≡ t → Entries t (drop q d))
     → Case d p e
-    → drop (walked d e.next n) d ≡ t
+    → drop (walked d (next_place p e) n) d ≡ t
     → Entries t (drop p d)
 entries_by d t n p e f (there m s q) w = entry_more d t p m s (f (m + 2) (rw q at w))
 entries_by d t n p e f (missing q) w = f p (rw q at w)
@@ -289,10 +292,10 @@ walk-entries d t zero p w = record { ids = []; front = []; are = none; split = w
 walk-entries d t (suc n) p w = entries_by d t n p (entry_at d p) (walk-entries d t n) (entry_case d p) w
 
 -- where the entries end, the data end or the end-of-contents octets stand
-ended-tail : (d : List ℕ) (f : Bool) (p : ℕ) → ended d f p ≡ true → drop p d ≡ tail f
+ended-tail : (d : List ℕ) (f : Form) (p : ℕ) → ended d f p ≡ true → drop p d ≡ tail f
 unfolding ended
-ended-tail d true p t = rw (eqb-true p (length d) t) (drop-length d)
-ended-tail d false p t =
+ended-tail d Definite p t = rw (eqb-true p (length d) t) (drop-length d)
+ended-tail d Indefinite p t =
     let h = (and-eq-true_iff (eqb (p + 2) (length d)) _).0 t in
     let z = (and-eq-true_iff (eqb (get_or d p 0) 0) _).0 h.1 in
     let l = eqb-true (p + 2) (length d) h.0 in
@@ -324,31 +327,35 @@ indefinite-by d t u e =
     let h : d ≡ 0x30 ∷ 0x80 ∷ (e.front ++ (0 ∷ 0 ∷ [])) = byte_at d 0 (omega arith) ∙ rw (t, byte_at d 1 (omega arith), u, e.split) in
     record { ids = e.ids; encodes = subst⁻¹ (λ (x : List ℕ). Encodes e.ids x) h (indefinite e.are) }
 
-decoded-by : (d : List ℕ) (h : Outer) → HeadCase d (length_at d 1) h → h.ok && ended d h.definite (walked d h.first (length d / 4)) ≡ true → Decoded d
-decoded-by d h (right t o q i) f =
-    let w = ended-tail d true (walked d (length_at d 1).next (length d / 4)) (rw i at f) in
-    definite-by d (length_at d 1).value (length_at d 1).next t (length-sized d 1 o) q (walk-entries d [] (length d / 4) (length_at d 1).next w)
+some-first : (b : Bool) (n : ℕ) → is_some (cond b (Some n) None) ≡ true → b ≡ true
+some-first true n e = refl
+some-first false n e = absurd (false≢true e)
+
+decoded-by : (d : List ℕ) (h : Option Outer) → HeadCase d (length_at d 1) h → is_some (listed_from d h) ≡ true → Decoded d
+decoded-by d h (right l t o q i) f =
+    let w = ended-tail d Definite (walked d l.next (length d / 4)) (some-first _ _ (rw i at f)) in
+    definite-by d l.value l.next t (length-sized d 1 l o) q (walk-entries d [] (length d / 4) l.next w)
 decoded-by d h (open-end t u i) f =
-    let w = ended-tail d false (walked d 2 (length d / 4)) (rw i at f) in
+    let w = ended-tail d Indefinite (walked d 2 (length d / 4)) (some-first _ _ (rw i at f)) in
     indefinite-by d t u (walk-entries d (0 ∷ 0 ∷ []) (length d / 4) 2 w)
 decoded-by d h (wrong i) f = absurd (false≢true (rw i at f))
 
-pub formed-encodes : (d : List ℕ) → (listed d).formed ≡ true → Decoded d
+pub formed-encodes : (d : List ℕ) → is_formed d ≡ true → Decoded d
 unfolding listed
 formed-encodes d t = decoded-by d (head d) (head-case d) t
 
 -- and of one list only
-both_by : (e : Entry) (p k n : ℕ) → e ≡ no_entry p → e ≡ record { ok = true; id = record { 0 = k }; next = n } → ⊥
-both_by e p k n q r = true≢false (ap (λ (x : Entry). x.ok) (sym r ∙ q))
+both_by : (e : Option Entry) (n : Entry) → e ≡ None → e ≡ Some n → ⊥
+both_by e n q r = cc
 
 one_list : {d ids ids' : List ℕ} {p : ℕ} → Lists d p ids → Lists d p ids' → ids ≡ ids'
 one_list (ends e) (ends f) = refl
-one_list (ends e) (goes_on f v) = absurd (both_by _ _ _ _ e f)
-one_list (goes_on e w) (ends f) = absurd (both_by _ _ _ _ f e)
+one_list (ends e) (goes_on f v) = absurd (both_by _ _ e f)
+one_list (goes_on e w) (ends f) = absurd (both_by _ _ f e)
 one_list {d} (goes_on {n = n} {k = k} {ids = ids} e w) (goes_on {n = n'} {k = k'} {ids = ids'} f v) =
     let q = sym e ∙ f in
-    let m = ap (λ (x : Entry). x.next) q in
-    ap₂ (λ (x : ℕ) (y : List ℕ). x ∷ y) (ap (λ (x : Entry). x.id.0) q) (one_list w (subst⁻¹ (λ (x : ℕ). Lists d x ids') m v))
+    let m = ap (next_place 0) q in
+    ap₂ (λ (x : ℕ) (y : List ℕ). x ∷ y) (ap (λ (x : Option Entry). (entry_id x).0) q) (one_list w (subst⁻¹ (λ (x : ℕ). Lists d x ids') m v))
 
 pub encodes_one : {d ids ids' : List ℕ} → Encodes ids d → Encodes ids' d → ids ≡ ids'
 encodes_one e f = one_list (encodes-lists e) (encodes-lists f)

@@ -1,112 +1,76 @@
 //! The list of an initial command: SEQUENCE OF OCTET STRING of size 2.
 #![tactic(auto)]
 
-ghost use Rattle.std.specs.Prelude.{◌≡◌, ◌+◌, ◌*◌, ◌-◌, ◌≤◌, min, length, get_or};
-ghost use Rattle.octets.specs.Lists.{part};
-ghost use Rattle.list.specs.Ber.{unsigned, fitting, length_at, entry_at, no_head, head, walked, ended, listed, no_length, no_entry};
+ghost use Rattle.std.specs.Prelude.{◌≡◌, ◌+◌, ◌*◌, ◌≤◌, min, length, get_or};
+ghost use Rattle.list.specs.Ber.{unsigned, fitting, length_at, entry_at, head, walked, ended, listed};
 ghost use Rattle.list.specs.Laws.{largest};
 
 use plaid_types::KeySetId;
 
 #[derive(Clone, Copy)]
 pub struct Length {
-    pub ok: bool,
     pub value: usize,
     pub next: usize,
-}
-
-fn bad_length(at: usize) -> Length
-    ensures { result ≡ no_length at }
-{
-    Length {
-        ok: false,
-        value: 0,
-        next: at,
-    }
 }
 
 // One byte more of a number; where that is over the largest usize, the largest, which fits no data.
 fn grown(v: usize, b: u8) -> usize
     ensures { result ≡ min (v * 256 + b) largest }
 {
-    if v < 0x100_0000_0000_0000 {
-        return v * 256 + b as usize;
-    }
-    0xffff_ffff_ffff_ffff
+    v.saturating_mul(256).saturating_add(usize::from(b))
 }
 
-// The number that stands from a place up to another, high byte first; where it is over the largest usize, the largest.
-fn number(d: &[u8], from: usize, end: usize) -> usize
-    requires { (from ≤ end) × (end ≤ length d.now) }
-    ensures { result ≡ min (unsigned (part d.now from (end - from))) largest }
+// The number in these bytes, high byte first; where it is over the largest usize, the largest.
+fn number(s: &[u8]) -> usize
+    ensures { result ≡ min (unsigned s.now) largest }
 {
     let mut v: usize = 0;
-    let mut i = from;
-    while i < end {
-        v = grown(v, d[i]);
-        i += 1;
+    for b in s {
+        v = grown(v, *b);
     }
     v
 }
 
-// A length whose value fits the data: so many bytes are there behind it.
-fn fitting(d: &[u8], at: usize, v: usize, next: usize) -> Length
+// A length whose value fits the data: so many bytes are there after it.
+fn fitting(d: &[u8], v: usize, next: usize) -> Option<Length>
     requires { next ≤ length d.now }
-    ensures { result ≡ fitting d.now at v next }
+    ensures { result ≡ fitting d.now v next }
 {
     if d.len() - next < v {
-        return bad_length(at);
+        return None;
     }
-    Length {
-        ok: true,
-        value: v,
-        next: next,
-    }
+    Some(Length { value: v, next })
 }
 
 // The definite length at a place: the short form, or 81 to FE and as many bytes as that says.
-fn length_at(d: &[u8], at: usize) -> Length
+fn length_at(d: &[u8], at: usize) -> Option<Length>
     ensures { result ≡ length_at d.now at }
 {
-    if d.len() <= at {
-        return bad_length(at);
-    }
-    let b = d[at] as usize;
+    let b = usize::from(*d.get(at)?);
     let from = at + 1;
     if b < 0x80 {
-        return fitting(d, at, b, from);
+        return fitting(d, b, from);
     }
     // 80 is the indefinite form, which only the SEQUENCE may have, and X.690 keeps FF for later.
     if b < 0x81 {
-        return bad_length(at);
+        return None;
     }
     if 0xfe < b {
-        return bad_length(at);
+        return None;
     }
     let n = b - 0x80;
     if d.len() - from < n {
-        return bad_length(at);
+        return None;
     }
     let next = from + n;
-    let v = number(d, from, next);
-    fitting(d, at, v, next)
+    let v = number(&d[from..next]);
+    fitting(d, v, next)
 }
 
 #[derive(Clone, Copy)]
 pub struct Entry {
-    pub ok: bool,
     pub id: KeySetId,
     pub next: usize,
-}
-
-fn no_entry(at: usize) -> Entry
-    ensures { result ≡ no_entry at }
-{
-    Entry {
-        ok: false,
-        id: KeySetId(0),
-        next: at,
-    }
 }
 
 // The KeySetID in an entry's two bytes.
@@ -120,28 +84,22 @@ fn id_at(d: &[u8], at: usize) -> KeySetId
 }
 
 // The entry at a place: tag 04, length 2, KeySetID.
-fn entry_at(d: &[u8], at: usize) -> Entry
+fn entry_at(d: &[u8], at: usize) -> Option<Entry>
     ensures { result ≡ entry_at d.now at }
 {
-    if d.len() <= at {
-        return no_entry(at);
+    let tag = *d.get(at)?;
+    if tag != 4 {
+        return None;
     }
-    if d[at] != 4 {
-        return no_entry(at);
-    }
-    let l = length_at(d, at + 1);
-    if !l.ok {
-        return no_entry(at);
-    }
+    let l = length_at(d, at + 1)?;
     if l.value != 2 {
-        return no_entry(at);
+        return None;
     }
     let p = l.next;
-    Entry {
-        ok: true,
+    Some(Entry {
         id: id_at(d, p),
         next: p + 2,
-    }
+    })
 }
 
 // A place inside the caller's data.
@@ -153,67 +111,51 @@ pub struct Cursor<'a> {
 
 impl<'a> Cursor<'a> {
     // The entry at the cursor's place.
-    pub fn step(self) -> Entry
+    pub fn step(self) -> Option<Entry>
         ensures { result ≡ entry_at self.entry.list.now self.entry.at }
     {
         entry_at(self.list, self.at)
     }
 }
 
-// The same with plain parameters.
-pub fn step_from(list: &[u8], at: usize) -> Entry
-    ensures { result ≡ entry_at list.now at }
-{
-    Cursor { list, at }.step()
+// The form of the outer SEQUENCE's length.
+#[derive(Clone, Copy)]
+pub enum Form {
+    Definite,
+    Indefinite,
 }
 
 // The outer SEQUENCE: the form of its length, and where its first entry stands.
 #[derive(Clone, Copy)]
 pub struct Outer {
-    pub ok: bool,
-    pub definite: bool,
+    pub form: Form,
     pub first: usize,
 }
 
-fn no_head() -> Outer
-    ensures { result ≡ no_head }
-{
-    Outer {
-        ok: false,
-        definite: true,
-        first: 0,
-    }
-}
-
 // Tag 30, and a length that says all that is left, or the indefinite form.
-fn head(d: &[u8]) -> Outer
+fn head(d: &[u8]) -> Option<Outer>
     ensures { result ≡ head d.now }
 {
     if d.len() < 2 {
-        return no_head();
+        return None;
     }
     if d[0] != 0x30 {
-        return no_head();
+        return None;
     }
     if d[1] == 0x80 {
-        return Outer {
-            ok: true,
-            definite: false,
+        return Some(Outer {
+            form: Form::Indefinite,
             first: 2,
-        };
+        });
     }
-    let l = length_at(d, 1);
-    if !l.ok {
-        return no_head();
-    }
+    let l = length_at(d, 1)?;
     if d.len() - l.next != l.value {
-        return no_head();
+        return None;
     }
-    Outer {
-        ok: true,
-        definite: true,
+    Some(Outer {
+        form: Form::Definite,
         first: l.next,
-    }
+    })
 }
 
 // Where n entries from a place on end. What is no entry is not passed, nor read again: its length may be long.
@@ -221,25 +163,20 @@ fn walk(d: &[u8], at: usize, n: usize) -> usize
     ensures { result ≡ walked d.now at n }
 {
     let mut p = at;
-    let mut j: usize = 0;
-    while j < n {
-        let e = step_from(d, p);
-        if !e.ok {
+    for _ in 0..n {
+        let c = Cursor { list: d, at: p };
+        let Some(e) = c.step() else {
             return p;
-        }
+        };
         p = e.next;
-        j += 1;
     }
     p
 }
 
-// Whether the entries end at a place: the data end there, or behind two zero bytes that stand there.
-fn ended(d: &[u8], definite: bool, at: usize) -> bool
-    ensures { result ≡ ended d.now definite at }
+// Whether two zero bytes at a place end the data.
+fn zeros_end(d: &[u8], at: usize) -> bool
+    ensures { result ≡ ended d.now Form.Indefinite at }
 {
-    if definite {
-        return at == d.len();
-    }
     if d.len() < 2 {
         return false;
     }
@@ -256,26 +193,21 @@ fn ended(d: &[u8], definite: bool, at: usize) -> bool
     d[at + 1] == 0
 }
 
-#[derive(Clone, Copy)]
-pub struct Listed {
-    pub formed: bool,
-    pub first: usize,
+// Whether the entries end at a place: the data end there, or after two zero bytes that stand there.
+fn ended(d: &[u8], form: Form, at: usize) -> bool
+    ensures { result ≡ ended d.now form at }
+{
+    match form {
+        Form::Definite => at == d.len(),
+        Form::Indefinite => zeros_end(d, at),
+    }
 }
 
-pub fn parse(d: &[u8]) -> Listed
+// Where the first entry of a well-formed list stands.
+pub fn parse(d: &[u8]) -> Option<usize>
     ensures { result ≡ listed d.now }
 {
-    let h = head(d);
-    let first = h.first;
-    let e = walk(d, first, d.len() / 4);
-    if h.ok {
-        return Listed {
-            formed: ended(d, h.definite, e),
-            first: first,
-        };
-    }
-    Listed {
-        formed: false,
-        first: first,
-    }
+    let h = head(d)?;
+    let e = walk(d, h.first, d.len() / 4);
+    ended(d, h.form, e).then_some(h.first)
 }

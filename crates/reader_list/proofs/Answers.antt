@@ -2,13 +2,17 @@
 use mathlib.Core.Path.{◌≡◌, sym, ap, ◌∙◌}
 use mathlib.Core.Bool.{Bool, true, false}
 use mathlib.Core.List.{List}
-use Prim.Native.Nat.{ℕ, suc, ◌+◌, ◌*◌, ◌<◌, ◌≤◌}
+use Prim.Native.Nat.{ℕ, ◌+◌, ◌*◌, ◌<◌, ◌≤◌}
 use native.Mathlib.Omega.{arith}
 use borrow.Author.Tests.{lt-ltb, le-ltb, eq-eqb, ne_eqb}
 use lib.ListN.{length, take, length-map}
 use lib.Seq.{length-take-le}
 use Rattle.octets.specs.Lists.{over}
+use Rattle.std.proofs.Common.{lit<}
 use Rattle.load.specs.Load.{repeated}
+use Rattle.refusals.specs.Numbers.{number_of}
+use Rattle.refusals.specs.declared.Refusal.{Refusal}
+use Rattle.refusals.specs.declared.Refusal.TheVariants.{KeySetCount, KeySetRepeated, ShillHandle, ModeCount, ModeRepeated, Record, FreshCount, PadByte, Output, ListCount, ListRepeated, ListOutput, Blocks, NoneOpens, Payload, SealOutput, Response, WorkBuffer, Authentication, KeyLength, ValueLength, ConversionLength, Parity, BadCharacter, Interface}
 use Rattle.plaid_types.specs.declared.KeySetId.{KeySetId}
 use Rattle.reader_list.specs.declared.Written.{Written}
 use Rattle.reader_list.specs.List.{numbers, given, list_command, list_number, listed, list_output}
@@ -25,38 +29,68 @@ long ids n l h = omega (arith, length-command (given ids n), length-given ids n 
 pub found : (ids : List KeySetId) (n : ℕ) {all : List ℕ} {r t : Bool} → all ≡ numbers ids → r ≡ repeated (take n all) → r ≡ t → repeated (given ids n) ≡ t
 found ids n q e z = sym (e ∙ ap (λ (l : List ℕ). repeated (take n l)) q) ∙ z
 
+-- each refusal has a number
+some-number : (r : Refusal) → 0 < number_of r
+some-number r =
+    elim r as (λ (x : Refusal). 0 < number_of x) [
+      | KeySetCount ↦ lit< tt
+      | KeySetRepeated ↦ lit< tt
+      | ShillHandle ↦ lit< tt
+      | ModeCount ↦ lit< tt
+      | ModeRepeated ↦ lit< tt
+      | Record ↦ lit< tt
+      | FreshCount ↦ lit< tt
+      | PadByte ↦ lit< tt
+      | Output ↦ lit< tt
+      | ListCount ↦ lit< tt
+      | ListRepeated ↦ lit< tt
+      | ListOutput ↦ lit< tt
+      | Blocks ↦ lit< tt
+      | NoneOpens ↦ lit< tt
+      | Payload ↦ lit< tt
+      | SealOutput ↦ lit< tt
+      | Response ↦ lit< tt
+      | WorkBuffer ↦ lit< tt
+      | Authentication ↦ lit< tt
+      | KeyLength ↦ lit< tt
+      | ValueLength ↦ lit< tt
+      | ConversionLength ↦ lit< tt
+      | Parity ↦ lit< tt
+      | BadCharacter ↦ lit< tt
+      | Interface ↦ lit< tt
+    ]
+
+module _ (ids : List KeySetId) (n room : ℕ) where
+  pub count_none : n ≡ 0 → list_number ids n room ≡ 11
+  unfolding list_number
+  count_none h = simp (eq-eqb n 0 h)
+
+  pub count-over : (n ≡ 0 → ⊥) → 16 < n → list_number ids n room ≡ 11
+  unfolding list_number
+  count-over z h = simp (ne_eqb n 0 z, lt-ltb 16 n h)
+
+  pub id-again : (n ≡ 0 → ⊥) → n ≤ 16 → repeated (given ids n) ≡ true → list_number ids n room ≡ 12
+  unfolding list_number
+  id-again z h f = simp (ne_eqb n 0 z, le-ltb 16 n h, f)
+
+  pub out-short : length ids ≡ 16 → (n ≡ 0 → ⊥) → n ≤ 16 → repeated (given ids n) ≡ false → room < 4 * n + 8 → list_number ids n room ≡ 13
+  unfolding list_number
+  out-short l z h f o = simp (ne_eqb n 0 z, le-ltb 16 n h, f, long ids n l h, lt-ltb room (4 * n + 8) o)
+
+  pub none-applies : length ids ≡ 16 → (n ≡ 0 → ⊥) → n ≤ 16 → repeated (given ids n) ≡ false → 4 * n + 8 ≤ room → list_number ids n room ≡ 0
+  unfolding list_number
+  none-applies l z h f o = simp (ne_eqb n 0 z, le-ltb 16 n h, f, long ids n l h, le-ltb room (4 * n + 8) o)
+
 module _ (ids : List KeySetId) (n : ℕ) (out : List ℕ) where
-  answer-declined : (k : ℕ) {r : Written} → list_number ids n (length out) ≡ suc k → r ≡ record { number = suc k; length = 0 } →
-      (r ≡ listed ids n (length out)) × (out ≡ list_output ids n out)
+  pub answer-declined : (r : Refusal) {k : ℕ} → k ≡ number_of r → number_of r ≡ list_number ids n (length out) →
+      (◌≡◌ {A = Written} (record { number = k; length = 0 }) (listed ids n (length out))) × (out ≡ list_output ids n out)
   unfolding listed list_output
-  answer-declined k e q = let z = ne_eqb (suc k) 0 (λ z. omega arith) in (q ∙ simp (e, z), simp (e, z))
+  answer-declined r ek e =
+      let z = ne_eqb (list_number ids n (length out)) 0 (λ z. omega (arith, some-number r)) in
+      (ap (λ (x : ℕ). record { number = x; length = 0 }) (ek ∙ e) ∙ sym (simp z), sym (simp z))
 
-  pub count_none : {r : Written} → n ≡ 0 → r ≡ record { number = 11; length = 0 } → (r ≡ listed ids n (length out)) × (out ≡ list_output ids n out)
-  unfolding list_number
-  count_none h = answer-declined 10 (simp (eq-eqb n 0 h))
-
-  pub count-over : {r : Written} → (n ≡ 0 → ⊥) → 16 < n → r ≡ record { number = 11; length = 0 } → (r ≡ listed ids n (length out)) × (out ≡ list_output ids n out)
-  unfolding list_number
-  count-over z h = answer-declined 10 (simp (ne_eqb n 0 z, lt-ltb 16 n h))
-
-  pub id-again : {r : Written} → (n ≡ 0 → ⊥) → n ≤ 16 → repeated (given ids n) ≡ true → r ≡ record { number = 12; length = 0 } →
-      (r ≡ listed ids n (length out)) × (out ≡ list_output ids n out)
-  unfolding list_number
-  id-again z h f = answer-declined 11 (simp (ne_eqb n 0 z, le-ltb 16 n h, f))
-
-  pub out-short : {r : Written} → length ids ≡ 16 → (n ≡ 0 → ⊥) → n ≤ 16 → repeated (given ids n) ≡ false → length out < 4 * n + 8 →
-      r ≡ record { number = 13; length = 0 } → (r ≡ listed ids n (length out)) × (out ≡ list_output ids n out)
-  unfolding list_number
-  out-short l z h f o = answer-declined 12 (simp (ne_eqb n 0 z, le-ltb 16 n h, f, long ids n l h, lt-ltb (length out) (4 * n + 8) o))
-
-  none-applies : length ids ≡ 16 → (n ≡ 0 → ⊥) → n ≤ 16 → repeated (given ids n) ≡ false → 4 * n + 8 ≤ length out → list_number ids n (length out) ≡ 0
-  unfolding list_number
-  none-applies l z h f o = simp (ne_eqb n 0 z, le-ltb 16 n h, f, long ids n l h, le-ltb (length out) (4 * n + 8) o)
-
-  pub command-made : {all e : List ℕ} {m : ℕ} → length ids ≡ 16 → (n ≡ 0 → ⊥) → n ≤ 16 → repeated (given ids n) ≡ false → 4 * n + 8 ≤ length out →
+  pub command-made : {all e : List ℕ} {m : ℕ} → 0 ≡ list_number ids n (length out) →
       all ≡ numbers ids → m ≡ length (list_command (take n all)) → e ≡ over out 0 (list_command (take n all)) →
       (◌≡◌ {A = Written} (record { number = 0; length = m }) (listed ids n (length out))) × (e ≡ list_output ids n out)
   unfolding listed list_output
-  command-made {all} {e} {m} l z h f o q a b =
-      let k = none-applies l z h f o in
-      (rw (a, q) (simp k), rw (b, q) (simp k))
+  command-made {all} {e} {m} k q a b = (rw (a, q) (simp (← k)), rw (b, q) (simp (← k)))

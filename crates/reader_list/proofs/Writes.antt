@@ -16,6 +16,9 @@ use Rattle.reader_list.specs.List.{list_command}
 abbrev entry : ℕ → List ℕ
 entry k = 4 ∷ 2 ∷ k / 256 ∷ k % 256 ∷ []
 
+pub entry-made : (k : ℕ) {b : List ℕ} → k < 65536 → b ≡ k / 256 % 256 ∷ k % 256 ∷ [] → 4 ∷ 2 ∷ get_or b 0 0 ∷ get_or b 1 0 ∷ [] ≡ entry k
+entry-made k {b} h e = rw e (ap (λ (x : ℕ). 4 ∷ 2 ∷ x ∷ k % 256 ∷ []) (omega arith))
+
 short-snoc : (ids : List ℕ) (k : ℕ) → short_entries (ids ++ (k ∷ [])) ≡ short_entries ids ++ entry k
 unfolding short_entries
 short-snoc [] k = refl

@@ -1,12 +1,14 @@
 //! The reader's List: the initial command for its key sets.
 #![tactic(auto)]
 
-ghost use Rattle.std.specs.Prelude.{◌≡◌, ◌+◌, ◌*◌, ◌≤◌, length};
+ghost use Rattle.std.specs.Prelude.{◌≡◌, ◌+◌, ◌*◌, ◌≤◌, IfOk, length};
 ghost use Rattle.octets.specs.Lists.{over};
 ghost use Rattle.list.specs.Encoding.{short_entries};
-ghost use Rattle.reader_list.specs.List.{numbers, list_command, listed, list_output};
+ghost use Rattle.refusals.specs.Numbers.{number_told};
+ghost use Rattle.reader_list.specs.List.{numbers, list_command, list_number, listed, list_output};
 
 use plaid_types::{KeySetId, Reader};
+use refusals::Refusal;
 
 // What List hands back: the number, and the command's length.
 #[repr(C)]
@@ -16,27 +18,10 @@ pub struct Written {
     pub length: usize,
 }
 
-// The number alone.
-fn declined(number: u8) -> Written
-    ensures { result ≡ record { number = number; length = 0 } }
-{
-    Written {
-        number: number,
-        length: 0,
-    }
-}
-
 fn numbers(ids: [KeySetId; Reader::IDS]) -> [u16; Reader::IDS]
     ensures { result ≡ numbers ids }
 {
-    let mut n = [0u16; Reader::IDS];
-    let mut i: usize = 0;
-    while i < Reader::IDS {
-        let k = ids[i];
-        n[i] = k.0;
-        i += 1;
-    }
-    n
+    ids.map(|k| k.0)
 }
 
 // The entries, each 04 02 and the KeySetID, from place 7 on.
@@ -44,12 +29,9 @@ fn entries(ids: &[u16], out: &mut [u8])
     requires { 7 + 4 * length ids.now ≤ length out.old }
     ensures { out.new ≡ over out.old 7 (short_entries ids.now) }
 {
-    let mut i: usize = 0;
-    while i < ids.len() {
-        let id = ids[i];
-        let e = [4u8, 2, (id / 256) as u8, (id % 256) as u8];
-        octets::copy_at(out, 7 + 4 * i, &e);
-        i += 1;
+    for (i, id) in ids.iter().enumerate() {
+        let [high, low] = id.to_be_bytes();
+        octets::copy_at(out, 7 + 4 * i, &[4u8, 2, high, low]);
     }
 }
 
@@ -68,27 +50,44 @@ fn command(ids: &[u16], out: &mut [u8]) -> usize
     n + 8
 }
 
+// The KeySetIDs' numbers, if no fault applies: the first in the order written is given.
+fn checked(
+    ids: [KeySetId; Reader::IDS],
+    count: usize,
+    room: usize,
+) -> Result<[u16; Reader::IDS], Refusal>
+    ensures number { number_told result ≡ list_number ids count room }
+    ensures value { IfOk result (λ all. (all ≡ numbers ids) × (count ≤ 16) × (4 * count + 8 ≤ room)) }
+{
+    if count == 0 {
+        return Err(Refusal::ListCount);
+    }
+    if Reader::IDS < count {
+        return Err(Refusal::ListCount);
+    }
+    let all = numbers(ids);
+    if load::repeats(&all[..count]) {
+        return Err(Refusal::ListRepeated);
+    }
+    if room < 4 * count + 8 {
+        return Err(Refusal::ListOutput);
+    }
+    Ok(all)
+}
+
 pub fn list(ids: [KeySetId; Reader::IDS], count: usize, out: &mut [u8]) -> Written
     ensures value { result ≡ listed ids count (length out.old) }
     ensures out_after { out.new ≡ list_output ids count out.old }
 {
-    if count == 0 {
-        return declined(11);
-    }
-    if Reader::IDS < count {
-        return declined(11);
-    }
-    let all = numbers(ids);
-    if load::repeats(&all[..count]) {
-        return declined(12);
-    }
-    if out.len() < 4 * count + 8 {
-        return declined(13);
-    }
-    let given = &all[..count];
-    let length = command(given, out);
-    Written {
-        number: 0,
-        length: length,
+    match checked(ids, count, out.len()) {
+        Ok(all) => {
+            let given = &all[..count];
+            let length = command(given, out);
+            Written { number: 0, length }
+        }
+        Err(r) => Written {
+            number: r.number(),
+            length: 0,
+        },
     }
 }

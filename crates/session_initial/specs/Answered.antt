@@ -1,11 +1,11 @@
 -- Of the KeySetIDs that are listed, in any form that encodes them, the card answers for the first that it holds: the slot, whether the command is accepted,
 -- and the reply; and two forms of one list get one answer. Assumes nothing.
-use Rattle.std.specs.Prelude.{◌≡◌, refl, Bool, true, false, cond, List, [], ◌∷◌, ℕ, zero, suc, ◌≤◌, eqb, ltb, length, get_or}
+use Rattle.std.specs.Prelude.{◌≡◌, refl, Bool, true, false, cond, None, List, [], ◌∷◌, ℕ, zero, suc, ◌≤◌, eqb, ltb, length, get_or}
 use Rattle.std.proofs.Common.{sym, ap, subst, ◌∙◌, not-suc-le-zero, le_of_suc-le-suc, arith, eq-eqb, ne_eqb, lt-ltb, le-ltb}
 use Rattle.std.proofs.lemmas.Bool.{false≢true}
 use Rattle.std.proofs.lemmas.List.{length-map}
 use Rattle.octets.specs.Lists.{part}
-use Rattle.list.specs.Ber.{entry_at, place_count, no_entry, listed}
+use Rattle.list.specs.Ber.{entry_at, place_count, first_entry}
 use Rattle.list.specs.Encoding.{Encodes}
 use Rattle.list.specs.Meaning.{Lists, ends, goes_on, encodes-formed, encodes-lists, encodes-few}
 use Rattle.plaid_types.specs.Keys.{key_length_of}
@@ -28,7 +28,7 @@ record Found (ss : List KeySetSlot) (ids : List KeySetId) (n : ℕ) : Type 0 whe
 end_by : (a n : ℕ) → a ≡ 8 → n ≡ 8 → cond (eqb a 8) n a ≡ 8
 end_by a n e q = rw (eq-eqb a 8 e) q
 
-place_end : (ss : List KeySetSlot) (d : List ℕ) (p n : ℕ) → length ss ≡ 8 → entry_at d p ≡ no_entry p → first_place ss true d p n ≡ 8
+place_end : (ss : List KeySetSlot) (d : List ℕ) (p n : ℕ) → length ss ≡ 8 → entry_at d p ≡ None → first_place ss true d p n ≡ 8
 unfolding first_place
 place_end ss d p zero l e = refl
 place_end ss d p (suc n) l e =
@@ -59,7 +59,7 @@ slot-encoded : (c : Card) → Stocked c → (ids : List KeySetId) (d : List ℕ)
 unfolding slot_of
 slot-encoded c s ids d e =
     rw (encodes-formed e)
-    (place_found c.sets d (listed d).first ids (place_count d) s.sets-long (omega (arith, encodes-few e, length-map ids (λ (k : KeySetId). k.0))) (encodes-lists e))
+    (place_found c.sets d (first_entry d) ids (place_count d) s.sets-long (omega (arith, encodes-few e, length-map ids (λ (k : KeySetId). k.0))) (encodes-lists e))
 
 below_by : (ss : List KeySetSlot) (ids : List KeySetId) (n : ℕ) (t : Bool) → some (held_in ss) ids ≡ t → Found ss ids n → ltb n 8 ≡ t
 below_by ss ids n true e f = lt-ltb n 8 (f.some-held e).below
@@ -121,7 +121,7 @@ pub forms-slot : (c : Card) → length c.sets ≡ 8 → (ids d d' : List ℕ) �
 unfolding slot_of
 forms-slot c l ids d d' e f =
     rw (encodes-formed e, encodes-formed f)
-    (slots-alike c.sets d d' (listed d).first (listed d').first ids (place_count d) (place_count d') l (encodes-few e) (encodes-few f) (encodes-lists e) (encodes-lists f))
+    (slots-alike c.sets d d' (first_entry d) (first_entry d') ids (place_count d) (place_count d') l (encodes-few e) (encodes-few f) (encodes-lists e) (encodes-lists f))
 
 -- what leaves the card, and the session
 pub record Alike (r r' : Reply) : Type 0 where

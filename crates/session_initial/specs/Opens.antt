@@ -1,7 +1,7 @@
 -- Whatever data an accepted initial command has, its slot is held: the session opens for a key set of the card. Assumes nothing.
-use Rattle.std.specs.Prelude.{◌≡◌, refl, Bool, true, false, cond, ◌&&◌, List, ℕ, zero, suc, ◌<◌, eqb, length, get_or}
+use Rattle.std.specs.Prelude.{◌≡◌, refl, Bool, true, false, cond, ◌&&◌, is_some, List, ℕ, zero, suc, ◌<◌, eqb, length, get_or}
 use Rattle.std.proofs.Common.{arith, ltb-true}
-use Rattle.list.specs.Ber.{entry_at, place_count, listed}
+use Rattle.list.specs.Ber.{entry_at, entry_id, next_place, place_count, is_formed, first_entry}
 use Rattle.plaid_types.specs.Cards.{no_set}
 use Rattle.plaid_types.specs.declared.KeySetId.{KeySetId}
 use Rattle.plaid_types.specs.declared.KeySetSlot.{KeySetSlot}
@@ -38,13 +38,13 @@ place-held :
 unfolding first_place
 place-held ss formed d p zero l h = absurd (omega arith)
 place-held ss formed d p (suc n) l h =
-    place-by ss (first_slot 0 (formed && (entry_at d p).ok) (entry_at d p).id ss) (first_place ss formed d (entry_at d p).next n)
-    (eqb (first_slot 0 (formed && (entry_at d p).ok) (entry_at d p).id ss) 8)
-    (λ q. found-held ss (formed && (entry_at d p).ok) (entry_at d p).id (held_in ss (entry_at d p).id) l refl q)
-    (λ q. place-held ss formed d (entry_at d p).next n l q) h
+    place-by ss (first_slot 0 (formed && is_some (entry_at d p)) (entry_id (entry_at d p)) ss) (first_place ss formed d (next_place p (entry_at d p)) n)
+    (eqb (first_slot 0 (formed && is_some (entry_at d p)) (entry_id (entry_at d p)) ss) 8)
+    (λ q. found-held ss (formed && is_some (entry_at d p)) (entry_id (entry_at d p)) (held_in ss (entry_id (entry_at d p))) l refl q)
+    (λ q. place-held ss formed d (next_place p (entry_at d p)) n l q) h
 
 pub accepted-holds : (c : Card) → Stocked c → (d : List ℕ) → accepts_initial c d ≡ true → Holds c.sets (slot_of c d) (set_at c (slot_of c d)).id
 unfolding slot_of
 accepted-holds c s d e =
     let h : slot_of c d < 8 = ltb-true (slot_of c d) 8 e in
-    record { below = h; kept = place-held c.sets (listed d).formed d (listed d).first (place_count d) s.sets-long h; id = refl }
+    record { below = h; kept = place-held c.sets (is_formed d) d (first_entry d) (place_count d) s.sets-long h; id = refl }

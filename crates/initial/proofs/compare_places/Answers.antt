@@ -1,44 +1,47 @@
 -- `initial::compare_places` meets its contract. The invariant is `PlacesDone`: what is left, with what was found so far, is all. Assumes nothing.
 use Prim.Native.Nat.{ℕ}
-use mathlib.Core.Path.{◌≡◌, ap, ◌∙◌}
+use mathlib.Core.Path.{◌≡◌, ap, ap₂, ◌∙◌}
+use mathlib.Core.Bool.{Bool, ◌&&◌}
 use lib.ListN.{length}
+use Rattle.std.specs.Prelude.{Option, is_some, unwrap_or}
 use Rattle.list.specs.Ber.{place_count}
-use Rattle.list.specs.declared.Listed.{Listed}
 use native.Mathlib.Omega.{arith}
 use Rattle.initial.specs.Told.{places_found}
 use Rattle.initial.proofs.Places.{places-start, places-turn, places-end, places-from, count-slots}
 use Rattle.std.proofs.Common.{rules}
 use Rattle.initial.proofs.compare_places.Goals as goal
 
-pub loop-j-init : goal.loop-j-init
-loop-j-init c = places-start _ _ _ _ _
+pub loop-init : goal.loop-init
+loop-init c = places-start _ _ _ _ _
 
 pub overflow_add-count : goal.overflow_add-count
 overflow_add-count c =
     let l : length c.args.sets ≡ 8 = search rules in
     let e : c.compare_slots-f.result.count ≡ 8 = count-slots _ _ _ c.args.sets l c.compare_slots-f.ensures in
-    omega (arith, e, c.loop-j.invariant.few, c.requires)
+    omega (arith, e, c.loop.invariant.few, c.requires)
 
-pub loop-j-preserved : goal.loop-j-preserved
-loop-j-preserved c =
+pub loop-preserved : goal.loop-preserved
+loop-preserved c =
     places-turn
     _
     _
     _
     (search rules)
-    c.loop-j-test.true
-    c.loop-j.invariant
-    c.step_from-e.ensures
-    c.both.ensures
+    c.loop-test.true
+    c.loop.invariant
+    c.step-e.ensures
+    (c.both.ensures ∙ ap (λ (x : Bool). c.is_some-formed.result && x) c.is_some-present.ensures)
+    c.id_of.ensures
     c.compare_slots-f.ensures
     c.first_of-at.ensures
+    c.place_after-p.ensures
 
 pub returns : goal.returns
 returns c =
     let sets = c.args.sets in
     let d = c.args.d.now in
-    let l = c.parse-l.result in
-    places-end _ _ _ c.loop-j-test.false c.loop-j.invariant
-    ∙ ap (λ (p : ℕ). places_found sets l.formed d p (place_count d)) c.first_place-p.ensures
-    ∙ places-from sets l.formed d l.first (length d) (place_count d)
-    ∙ ap (λ (l : Listed). places_found sets l.formed d l.first (place_count d)) c.parse-l.ensures
+    let n = place_count d in
+    places-end _ _ _ (search rules) c.loop.invariant
+    ∙ ap₂ (λ (f : Bool) (p : ℕ). places_found sets f d p n) c.is_some-formed.ensures c.first_place-p.ensures
+    ∙ places-from sets c.parse-first.result d (length d) n
+    ∙ ap (λ (o : Option ℕ). places_found sets (is_some o) d (unwrap_or o 0) n) c.parse-first.ensures

@@ -5,7 +5,7 @@ use native.Mathlib.Omega.{arith}
 use Rattle.octets.specs.Lists.{over}
 use Rattle.plaid_types.specs.Keys.{str1_length}
 use Rattle.initial.specs.Initial.{str1}
-use Rattle.initial.proofs.Writes.{str1-writes}
+use Rattle.initial.proofs.Writes.{str1-writes, two-bytes}
 use Rattle.std.proofs.Common.{rules}
 use Rattle.initial.proofs.str1.Goals as goal
 
@@ -36,7 +36,7 @@ returns c =
     at.result
     (search rules)
     (omega (arith, at.ensures, c.requires.1))
-    c.copy_at.ensures
+    (c.copy_at.ensures ∙ ap (over c.args.out.now at.result) (c.to_be_bytes-number.ensures ∙ two-bytes c.args.id.0 (search rules)))
     c.copy_at-2.ensures
     c.copy_at-3.ensures
     c.copy_at-4.ensures

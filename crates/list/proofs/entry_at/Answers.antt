@@ -1,51 +1,36 @@
 -- `list::entry_at` meets its contract: each return is one case of `entry_at`, told by the tests that led there. Assumes nothing.
 use mathlib.Core.Path.{sym, ◌∙◌}
-use native.Mathlib.Omega.{arith}
-use borrow.Author.Tests.{eq-eqb, ne_eqb, not-true, not-false}
+use borrow.Author.Tests.{eq-eqb, ne_eqb, ltb-false}
 use Rattle.list.proofs.Within.{entry-within}
 use Rattle.list.specs.Ber.{entry_at}
 use Rattle.list.specs.Laws.{no-tag, past-entry}
 use Rattle.std.proofs.Common.{rules}
 use Rattle.list.proofs.entry_at.Goals as goal
 
-pub returns-then-d-at : goal.returns-then-d-at
-returns-then-d-at c = let a = c.args in c.no_entry.ensures ∙ sym (past-entry a.d.now a.at (omega arith))
+pub returns-in_err-tag : goal.returns-in_err-tag
+returns-in_err-tag c =
+    let a = c.args in
+    c.from_residual.ensures ∙ sym (past-entry a.d.now a.at (ltb-false _ _ (sym c.in_err-tag.ensures.lookup.0)))
 
-pub returns-then-d-at-ne4 : goal.returns-then-d-at-ne4
-returns-then-d-at-ne4 c = let a = c.args in c.no_entry-then-d-at-ne4.ensures ∙ sym (no-tag a.d.now a.at c.if-d-at-ne4.true)
+pub returns-then-tag-ne4 : goal.returns-then-tag-ne4
+returns-then-tag-ne4 c =
+    let a = c.args in
+    sym (no-tag a.d.now a.at (λ e. c.if-tag-ne4.true (c.in_ok-tag.ensures.lookup.3.1 0 ∙ e)))
 
-pub returns-then-not-l : goal.returns-then-not-l
+pub returns-in_err-l : goal.returns-in_err-l
 unfolding entry_at
-returns-then-not-l c =
-    c.no_entry-then-not-l.ensures
-    ∙ simp (eq-eqb _ _ c.if-d-at-ne4.false, ← c.length_at-l.ensures, not-true c.length_at-l.result.ok c.if-not-l.true)
+returns-in_err-l c = c.from_residual-in_err-l.ensures ∙ simp (eq-eqb _ _ (sym (c.in_ok-tag.ensures.lookup.3.1 0) ∙ c.if-tag-ne4.false), ← c.in_err-l.ensures)
 
 pub returns-then-l-ne2 : goal.returns-then-l-ne2
 unfolding entry_at
-returns-then-l-ne2 c =
-    c.no_entry-then-l-ne2.ensures ∙ simp (
-      eq-eqb _ _ c.if-d-at-ne4.false,
-      ← c.length_at-l.ensures,
-      not-false c.length_at-l.result.ok c.if-not-l.false,
-      ne_eqb c.length_at-l.result.value 2 c.if-l-ne2.true,
-    )
+returns-then-l-ne2 c = simp (eq-eqb _ _ (sym (c.in_ok-tag.ensures.lookup.3.1 0) ∙ c.if-tag-ne4.false), ← c.in_ok-l.ensures, ne_eqb c.in_ok-l.l.value 2 c.if-l-ne2.true)
 
 pub id_at-requires : goal.id_at-requires
-id_at-requires c =
-    entry-within _ _ c.length_at-l.result c.length_at-l.ensures (not-false c.length_at-l.result.ok c.if-not-l.false) c.if-l-ne2.false
+id_at-requires c = entry-within _ _ c.in_ok-l.l (sym c.in_ok-l.ensures) c.if-l-ne2.false
 
 pub overflow_add-result : goal.overflow_add-result
-overflow_add-result c =
-    let h = entry-within _ _ c.length_at-l.result c.length_at-l.ensures (not-false c.length_at-l.result.ok c.if-not-l.false) c.if-l-ne2.false in
-    search rules
+overflow_add-result c = let h = entry-within _ _ c.in_ok-l.l (sym c.in_ok-l.ensures) c.if-l-ne2.false in search rules
 
 pub returns : goal.returns
 unfolding entry_at
-returns c =
-    simp (
-      eq-eqb _ _ c.if-d-at-ne4.false,
-      ← c.length_at-l.ensures,
-      not-false c.length_at-l.result.ok c.if-not-l.false,
-      eq-eqb c.length_at-l.result.value 2 c.if-l-ne2.false,
-      ← c.id_at.ensures,
-    )
+returns c = simp (eq-eqb _ _ (sym (c.in_ok-tag.ensures.lookup.3.1 0) ∙ c.if-tag-ne4.false), ← c.in_ok-l.ensures, eq-eqb c.in_ok-l.l.value 2 c.if-l-ne2.false, ← c.id_at.ensures)

@@ -1,5 +1,4 @@
 -- `list::fitting` meets its contract: each return is one case of `fitting`, told by the tests that led there. Assumes nothing.
-use mathlib.Core.Path.{◌∙◌}
 use Prim.Native.Nat.{◌+◌}
 use native.Mathlib.Omega.{arith}
 use borrow.Author.Tests.{le-leb, lt-leb}
@@ -9,12 +8,8 @@ use Rattle.list.proofs.fitting.Goals as goal
 
 pub returns-then-d-next : goal.returns-then-d-next
 unfolding fitting
-returns-then-d-next c =
-    let a = c.args in
-    c.bad_length.ensures ∙ simp (lt-leb (a.next + a.v) (length a.d.now) (omega arith))
+returns-then-d-next c = let a = c.args in simp (lt-leb (a.next + a.v) (length a.d.now) (omega arith))
 
 pub returns : goal.returns
 unfolding fitting
-returns c =
-    let a = c.args in
-    simp (le-leb (a.next + a.v) (length a.d.now) (omega arith))
+returns c = let a = c.args in simp (le-leb (a.next + a.v) (length a.d.now) (omega arith))

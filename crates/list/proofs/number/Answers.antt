@@ -1,25 +1,20 @@
--- `list::number` meets its contract. The loop's invariant: v is the number in the bytes before place i. The measure is what is left of them. Assumes nothing.
-use mathlib.Core.Path.{◌≡◌, ap, ◌∙◌}
-use Prim.Native.Nat.{ℕ, ◌-◌, min}
-use native.Mathlib.Omega.{arith}
-use Rattle.octets.specs.Lists.{part}
+-- `list::number` meets its contract. The loop's invariant: v is the number in the bytes before the index. Assumes nothing.
+use mathlib.Core.Path.{refl, ap, ◌∙◌}
+use mathlib.Core.List.{List}
+use Prim.Native.Nat.{ℕ, min}
+use lib.Seq.{take_all}
 use Rattle.list.specs.Ber.{unsigned}
 use Rattle.list.specs.Laws.{largest}
-use Rattle.list.proofs.Within.{number-none, number-turn}
+use Rattle.list.proofs.Within.{number-turn}
 use Rattle.std.proofs.Common.{rules}
 use Rattle.list.proofs.number.Goals as goal
 
-pub loop-i-init : goal.loop-i-init
-loop-i-init c = (search rules, search rules, number-none _ _)
+pub loop-b-init : goal.loop-b-init
+unfolding unsigned
+loop-b-init c = refl
 
-pub loop-i-preserved : goal.loop-i-preserved
-loop-i-preserved c =
-    let l = c.loop-i in
-    let a = c.args in
-    (search rules, search rules, number-turn a.d.now a.from l.i l.v c.grown-v.result (omega arith) (omega arith) l.invariant.2 c.grown-v.ensures)
+pub loop-b-preserved : goal.loop-b-preserved
+loop-b-preserved c = let l = c.loop-b in number-turn _ l.b-index l.v c.grown-v.result (search rules) l.invariant c.grown-v.ensures
 
 pub returns : goal.returns
-returns c =
-    let a = c.args in
-    let e : c.loop-i.i ≡ a.end = omega arith in
-    c.loop-i.invariant.2 ∙ ap (λ (n : ℕ). min (unsigned (part a.d.now a.from (n - a.from))) largest) e
+returns c = c.loop-b.invariant ∙ ap (λ (s : List ℕ). min (unsigned s) largest) (take_all _ _ (search rules))

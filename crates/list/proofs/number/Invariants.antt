@@ -1,13 +1,10 @@
--- `list::number` meets its contract. The loop's invariant: v is the number in the bytes before place i. The measure is what is left of them. Assumes nothing.
+-- `list::number` meets its contract. The loop's invariant: v is the number in the bytes before the index. Assumes nothing.
 use mathlib.Core.Path.{◌≡◌}
-use Prim.Native.Nat.{◌-◌, ◌≤◌, min}
-use Rattle.octets.specs.Lists.{part}
+use Prim.Native.Nat.{min}
+use lib.ListN.{take}
 use Rattle.list.specs.Ber.{unsigned}
 use Rattle.list.specs.Laws.{largest}
 use Rattle.list.proofs.number.Given as goal
 
-abbrev pub invariant-loop-i : goal.invariant-loop-i
-invariant-loop-i l = (l.from ≤ l.i) × (l.i ≤ l.end) × (l.v ≡ min (unsigned (part l.d l.from (l.i - l.from))) largest)
-
-abbrev pub decreases-loop-i : goal.decreases-loop-i
-decreases-loop-i l = l.end - l.i
+abbrev pub invariant-loop-b : goal.invariant-loop-b
+invariant-loop-b l = l.v ≡ min (unsigned (take l.b-index l.s)) largest

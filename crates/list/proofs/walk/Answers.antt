@@ -1,26 +1,16 @@
--- `list::walk` meets its contract. The loop's invariant: p is where j entries end. The measure is what is left of n. Assumes nothing.
-use mathlib.Core.Path.{◌≡◌, refl, ap, ◌∙◌}
+-- `list::walk` meets its contract. The loop's invariant: p is where so many entries end. Assumes nothing.
+use mathlib.Core.Path.{refl}
 use native.Mathlib.Omega.{arith}
 use Rattle.list.specs.Ber.{walked}
 use Rattle.list.proofs.Within.{walk_turn, walk-stuck}
-use borrow.Author.Tests.{not-true}
-use Rattle.std.proofs.Common.{rules}
 use Rattle.list.proofs.walk.Goals as goal
 
-pub loop-j-init : goal.loop-j-init
+pub loop-init : goal.loop-init
 unfolding walked
-loop-j-init c = (search rules, refl)
+loop-init c = refl
 
-pub returns-then-not-e : goal.returns-then-not-e
-returns-then-not-e c =
-    let l = c.loop-j in
-    let a = c.args in
-    walk-stuck a.d.now a.at l.p l.j a.n c.step_from-e.result l.invariant.0 l.invariant.1 c.step_from-e.ensures (not-true c.step_from-e.result.ok c.if-not-e.true)
+pub returns-in_default : goal.returns-in_default
+returns-in_default c = let l = c.loop in walk-stuck _ _ l.p l.counter _ (omega arith) l.invariant c.in_default.ensures
 
-pub loop-j-preserved : goal.loop-j-preserved
-loop-j-preserved c = (search rules, walk_turn _ _ _ _ c.step_from-e.result c.loop-j.invariant.1 c.step_from-e.ensures)
-
-pub returns : goal.returns
-returns c =
-    let e : c.loop-j.j ≡ c.args.n = omega arith in
-    c.loop-j.invariant.1 ∙ ap (walked c.args.d.now c.args.at) e
+pub loop-preserved : goal.loop-preserved
+loop-preserved c = let l = c.loop in walk_turn _ _ _ l.counter c.in-Some.e l.invariant c.in-Some.ensures

@@ -1,24 +1,23 @@
--- `numbers` meets its contract: the numbers below i are those of the KeySetIDs. Assumes nothing.
-use mathlib.Core.Path.{◌≡◌, refl, sym, ◌∙◌}
+-- `numbers` meets its contract: what is mapped is a list of the same length, by its places. Assumes nothing.
+use mathlib.Core.Path.{◌≡◌, sym, ◌∙◌}
+use mathlib.Core.List.{List}
+use Prim.Native.Nat.{ℕ}
 use native.Mathlib.Omega.{arith}
-use lib.ListN.{length, get_or, length-map, get_or-map}
-use Rattle.octets.specs.Lists.{tabled}
-use Rattle.octets.specs.Filled.{filled_none, filled_more, filled-all}
+use lib.ListN.{length, length-map}
+use Rattle.std.specs.Fn.{Called}
+use Rattle.std.specs.Array.{IsMapOf}
+use denote.Param.Members.{Mut}
+use Rattle.std.proofs.lemmas.List.{same_lists, get_or-map}
+use Rattle.std.specs.Prelude.{map}
 use Rattle.plaid_types.specs.declared.KeySetId.{KeySetId}
-use Rattle.reader_list.specs.List.{numbers}
 use Rattle.std.proofs.Common.{rules}
 use Rattle.reader_list.proofs.numbers.Goals as goal
 
-pub loop-i-init : goal.loop-i-init
-loop-i-init c = filled_none _ _
-
-pub loop-i-preserved : goal.loop-i-preserved
-loop-i-preserved c =
-    let q = c.loop-i in
-    filled_more q.invariant (search rules) (sym (get_or-map (λ (k : KeySetId). k.0) c.args.ids q.i (record { 0 = 0 })))
+mapped : {F A : Type 0} (g : Mut F (A × Unit {0}) ℕ) (h : A → ℕ) (f : F) (l : List A) (ids : List ℕ) (d : A) {k : ℕ} → IsMapOf g f l ids k → length l ≡ k →
+    ((x : A) (y : ℕ) (p q : F) → Called g p (x, tt) y q → y ≡ h x) → ids ≡ map h l
+mapped g h f l ids d {k} m z w =
+    same_lists ids (map h l) (m.long ∙ sym z ∙ sym (length-map l h))
+    (λ i x b. let c = m.at i d x (omega (arith, m.long)) in w _ _ _ _ c.2 ∙ sym (get_or-map h l i d x (omega (arith, m.long))))
 
 pub returns : goal.returns
-returns c =
-    let l = c.args.ids in
-    let e : length (numbers l) ≡ 16 = length-map l (λ (k : KeySetId). k.0) ∙ search rules in
-    filled-all 16 c.loop-i.invariant (search rules) (search rules) ∙ sym (tabled (λ k. get_or (numbers l) k 0) 16 0 (numbers l) 0 (omega arith) (λ k h. refl))
+returns c = mapped _ (λ (k : KeySetId). k.0) _ _ _ (record { 0 = 0 }) c.map.ensures.items (search rules) (λ x y p q e. search rules)
