@@ -47,7 +47,7 @@ fn temp(table: &[u8; 256], nk: usize, j: usize, t: u32, x: u8) -> u32
     t
 }
 
-// The place behind the last of Nk is the first.
+// The place after the last of Nk is the first.
 fn place(nk: usize, j: usize) -> usize
     ensures { result ≡ place nk j }
 {
@@ -83,20 +83,18 @@ fn straddling(a: Columns, b: Columns) -> Columns
     }
 }
 
-// Of the last eight words, the four that stand Nk before the next four.
+// Of the last eight words, the four that are Nk before the next four.
 fn source(nk: usize, older: Columns, newer: Columns) -> Columns
     ensures { result ≡ source_of nk older newer }
 {
-    if nk == 4 {
-        return newer;
+    match nk {
+        4 => newer,
+        6 => straddling(older, newer),
+        _ => older,
     }
-    if nk == 6 {
-        return straddling(older, newer);
-    }
-    older
 }
 
-// Before the first four words that are made stand the key's last four, and older ones as far as they are needed.
+// Before the first four words that are made come the key's last four, and older ones as far as they are needed.
 fn earlier(nk: usize, first: Columns) -> Columns
     ensures { result ≡ earlier_of nk first }
 {
@@ -128,10 +126,7 @@ fn constant_after(nk: usize, j: usize, x: u8) -> u8
     requires { (j < nk) × (nk ≤ 8) }
     ensures { result ≡ constant_after nk j x }
 {
-    if j == 0 {
-        return field::x_times(x);
-    }
-    if nk < j + 4 {
+    if j == 0 || nk < j + 4 {
         return field::x_times(x);
     }
     x
