@@ -11,14 +11,14 @@ ghost use Rattle.hexadecimal.specs.Hexadecimal.{is_digit, digit_value, digit, oc
 fn is_digit(c: u8) -> bool
     ensures { result ≡ is_digit c }
 {
-    matches!(c, b'0'..=b'9' | b'A'..=b'F' | b'a'..=b'f')
+    c.is_ascii_hexdigit()
 }
 
 // Whether every character is one.
 pub fn are_digits(s: &[u8]) -> bool
     ensures { result ≡ each is_digit s.now }
 {
-    conversion::each(s, |c| is_digit(c))
+    conversion::each(s, is_digit)
 }
 
 // The value of a digit.
@@ -49,6 +49,7 @@ pub fn read_digits(digits: &[u8], out: &mut [u8], at: usize)
     requires { (each is_digit digits.now ≡ true) × (at + length (octets_of digits.now) ≤ length out.old) }
     ensures { out.new ≡ over out.old at (octets_of digits.now) }
 {
+    // By place: an octet's place is needed beside its two digits, with chunks_exact(2) as well (d).
     for i in 0..digits.len() / 2 {
         let high = digit_value(digits[2 * i]);
         let low = digit_value(digits[2 * i + 1]);

@@ -48,6 +48,7 @@ fn bits_of_text(text: &[u8]) -> [u8; 32]
     ensures { result ≡ with_zeros (text_bits text.now) }
 {
     let mut low = [0u8; 26];
+    // By place: after a zip with iter_mut a proof knows no element (c).
     for (i, c) in text.iter().enumerate() {
         low[i] = bit_of(*c);
     }
@@ -62,6 +63,7 @@ fn characters(bits: &[u8]) -> [u8; 26]
     ensures { result ≡ map character (drop 6 bits.now) }
 {
     let mut text = [0u8; 26];
+    // By place: after a zip with iter_mut a proof knows no element (c).
     for (i, b) in bits[6..].iter().enumerate() {
         text[i] = b'0' + *b;
     }
@@ -84,7 +86,7 @@ fn record(text: &[u8], room: usize) -> Result<[u8; 4], Refusal>
 {
     conversion::fits(text.len(), 26, room, 4)?;
     let bits = bits_of_text(text);
-    let good = conversion::each(text, |c| is_bit(c));
+    let good = conversion::each(text, is_bit);
     let right = parity_right(&bits);
     fault(good, right)?;
     Ok(binary::bytes_of(&bits))
