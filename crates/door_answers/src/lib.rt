@@ -28,6 +28,7 @@ fn wrong_length(out: &mut [u8], at: usize, n: usize) -> usize
     ensures upper_bound { result ≤ at + 100 }
 {
     let a = printing::put(out, at, b": 23, wrong length: ");
+    // u64 has no From<usize> (d).
     let b = printing::decimal(out, a, n as u64);
     printing::put(
         out,

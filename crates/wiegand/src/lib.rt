@@ -48,7 +48,7 @@ fn bits_of_text(text: &[u8]) -> [u8; 32]
     ensures { result ≡ with_zeros (text_bits text.now) }
 {
     let mut low = [0u8; 26];
-    // By place: after a zip with iter_mut a proof knows no element (c).
+    // By place: with array::from_fn a proof does not learn from 26 calls that each reads this slice, tried (c).
     for (i, c) in text.iter().enumerate() {
         low[i] = bit_of(*c);
     }
@@ -63,7 +63,7 @@ fn characters(bits: &[u8]) -> [u8; 26]
     ensures { result ≡ map character (drop 6 bits.now) }
 {
     let mut text = [0u8; 26];
-    // By place: after a zip with iter_mut a proof knows no element (c).
+    // By place: with array::from_fn a proof does not learn from 26 calls that each reads this slice, tried (c).
     for (i, b) in bits[6..].iter().enumerate() {
         text[i] = b'0' + *b;
     }
