@@ -2,6 +2,7 @@
 use mathlib.Core.Path.{sym, ap, ◌∙◌}
 use mathlib.Core.List.{List}
 use Prim.Native.Nat.{ℕ, ◌/◌}
+use native.Mathlib.Omega.{arith}
 use lib.ListN.{length}
 use Rattle.aes.specs.Rows.{length-lent, lent-inv_aes}
 use Rattle.work.specs.Steps.{decipherment}
@@ -11,6 +12,9 @@ use Rattle.cbc.proofs.decipher_under.Goals as goal
 
 pub slice_bounds-decipher-end : goal.slice_bounds-decipher-end
 slice_bounds-decipher-end c = sym (length-lent c.args.key.now c.requires.1)
+
+pub decipher-requires : goal.decipher-requires
+decipher-requires c = omega (arith, length-lent c.args.key.now c.requires.1)
 
 pub returns : goal.returns
 returns c =

@@ -2,6 +2,7 @@
 use mathlib.Core.Path.{sym, ap, ◌∙◌}
 use mathlib.Core.List.{List}
 use Prim.Native.Nat.{ℕ, ◌/◌}
+use native.Mathlib.Omega.{arith}
 use lib.ListN.{length}
 use Rattle.aes.specs.Rows.{length-lent, lent-aes}
 use Rattle.work.specs.Steps.{encipherment}
@@ -11,6 +12,9 @@ use Rattle.cbc.proofs.encipher_under.Goals as goal
 
 pub slice_bounds-encipher-end : goal.slice_bounds-encipher-end
 slice_bounds-encipher-end c = sym (length-lent c.args.key.now c.requires.1)
+
+pub encipher-requires : goal.encipher-requires
+encipher-requires c = omega (arith, length-lent c.args.key.now c.requires.1)
 
 pub returns : goal.returns
 returns c =

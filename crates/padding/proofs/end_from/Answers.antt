@@ -21,3 +21,9 @@ loop-i-preserved c =
       | then-b-ne0 w ↦ omega (arith, more, end-moves s k (λ z. w.if-b-ne0.true (at ∙ z)))
       | else-b-ne0 w ↦ omega (arith, more, end-zero s k (sym at ∙ w.if-b-ne0.false))
     ]
+
+pub returns : goal.returns
+returns c =
+    let s = c.args.s.now in
+    let e : c.args.start + c.loop-i.i ≡ length s = omega (arith, length-between s c.args.start (length s) (omega arith)) in
+    rw e at c.loop-i.invariant

@@ -23,6 +23,9 @@ weight-at i h =
 small_at : (i b : ℕ) → i < 16 → b < 256 → get_or WEIGHTS i 0 * b < 2 ^ 40
 small_at i b h l = weighed-small (get_or WEIGHTS i 0) b (omega (arith, weight-at i h)) l
 
+pub loop-i-init : goal.loop-i-init
+loop-i-init c = rw c.from.ensures (refl, omega arith)
+
 pub overflow_mul-sum-in-loop-i : goal.overflow_mul-sum-in-loop-i
 overflow_mul-sum-in-loop-i c =
     let f : Fits w8 (get_or c.args.b c.loop-i.i 0) = search rules in
