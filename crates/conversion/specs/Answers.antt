@@ -1,18 +1,24 @@
--- What a conversion returns and leaves, told by its number. Assumes nothing.
-use Rattle.std.specs.Prelude.{◌≡◌, refl, Bool, true, false, cond, ◌||◌, not, List, ℕ, suc, ◌≤◌, eqb, ltb, length, ◌++◌, Result, Ok, Err, IfOk}
-use Rattle.std.proofs.Common.{sym, ap, ◌∙◌, arith, eq-eqb, ne_eqb, eqb-true, le-ltb, ltb-false, append-nil, drop_of_length-le}
+-- What a conversion returns and leaves, told by its number; and a test of every element as a loop makes it. Assumes nothing.
+use Rattle.std.specs.Prelude.{◌≡◌, refl, Bool, true, false, cond, ◌&&◌, ◌||◌, not, List, ℕ, suc, ◌+◌, ◌<◌, ◌≤◌, eqb, ltb, length, get_or, drop, ◌++◌, Result, Ok, Err, IfOk}
+use Rattle.std.proofs.Common.{sym, ap, ◌∙◌, add-one, arith, eq-eqb, ne_eqb, eqb-true, le-ltb, ltb-false, append-nil, drop_of_length-le, drop-cons}
+use Rattle.std.proofs.Math.Bool.{and-true, and_assoc}
 use Rattle.std.proofs.lemmas.Bool.{not-false}
 use Rattle.octets.specs.Lists.{over}
 use Rattle.octets.specs.Writes.{over-front}
 use Rattle.refusals.specs.Numbers.{number_of}
 use Rattle.refusals.specs.declared.Refusal.{Refusal}
 use Rattle.refusals.specs.declared.Refusal.TheVariants.{KeySetCount, KeySetRepeated, ShillHandle, ModeCount, ModeRepeated, Record, FreshCount, PadByte, Output, ListCount, ListRepeated, ListOutput, Blocks, NoneOpens, Payload, SealOutput, Response, WorkBuffer, Authentication, KeyLength, ValueLength, ConversionLength, Parity, BadCharacter, Interface}
-use Rattle.conversion.specs.Conversion.{misfit, made, converted, output_after, told, left, Gives}
+use Rattle.conversion.specs.Conversion.{misfit, made, converted, output_after, each}
+use Rattle.conversion.specs.Told.{told, left, Gives}
 use Rattle.conversion.specs.declared.Converted.{Converted}
 
 -- what an operation with this number and result owes its caller, by what it returns and leaves
 abbrev pub Answers : ℕ → List ℕ → List ℕ → Converted → List ℕ → Type 0
 Answers number result out r out' = (r ≡ converted number result) × (out' ≡ output_after number result out)
+
+pub answer-declined : (n : ℕ) (result out : List ℕ) {number : ℕ} {r : Converted} → number ≡ n → (n ≡ 0 → ⊥) → r ≡ record { number = n; length = 0 } → Answers number result out r out
+unfolding converted output_after
+answer-declined n result out e h q = let z = ne_eqb n 0 h in (q ∙ simp (e, z), simp (e, z))
 
 pub answer-made : (result out : List ℕ) {number : ℕ} {r : Converted} {out' : List ℕ} → number ≡ 0 → r ≡ made result → out' ≡ over out 0 result → Answers number result out r out'
 unfolding converted output_after
@@ -97,3 +103,17 @@ no-misfit n wanted room result e h = simp (eq-eqb n wanted e, le-ltb room result
 pub undeclined : (a : Bool) (k n : ℕ) → cond a (suc k) n ≡ 0 → (a ≡ false) × (n ≡ 0)
 undeclined true k n e = absurd (omega arith)
 undeclined false k n e = (refl, e)
+
+-- a test of every element: what was seen, and what the rest says, is what all say. One turn, and the end
+pub each_turn : (p : ℕ → Bool) (s : List ℕ) (i : ℕ) (r v : Bool) {r' : Bool} → i < length s → v ≡ p (get_or s i 0) → r' ≡ (r && v) →
+    (r && each p (drop i s)) ≡ each p s → (r' && each p (drop (i + 1) s)) ≡ each p s
+each_turn p s i r v h e q inv =
+    let rest : Bool = each p (drop (i + 1) s) in
+    let more : each p (drop i s) ≡ (p (get_or s i 0) && rest) = rw (add-one, drop-cons s i 0 h) in
+    ap (λ (x : Bool). x && rest) (q ∙ ap (λ (x : Bool). r && x) e)
+    ∙ and_assoc r (p (get_or s i 0)) rest
+    ∙ ap (λ (x : Bool). r && x) (sym more)
+    ∙ inv
+
+pub each-done : (p : ℕ → Bool) (s : List ℕ) (i : ℕ) (r : Bool) → length s ≤ i → (r && each p (drop i s)) ≡ each p s → r ≡ each p s
+each-done p s i r h inv = sym (rw (drop_of_length-le s h) (and-true r)) ∙ inv

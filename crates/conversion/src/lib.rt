@@ -3,7 +3,8 @@
 
 ghost use Rattle.std.specs.Prelude.{◌≡◌, ℕ, ◌<◌, ◌≤◌, Bool, cond, length, IfOk};
 ghost use Rattle.refusals.specs.Numbers.{number_told};
-ghost use Rattle.conversion.specs.Conversion.{misfit, each, told, left};
+ghost use Rattle.conversion.specs.Conversion.{misfit, each};
+ghost use Rattle.conversion.specs.Told.{told, left};
 
 use refusals::Refusal;
 

@@ -3,7 +3,8 @@
 
 ghost use Rattle.std.specs.Prelude.{◌≡◌, true, ◌+◌, ◌*◌, ◌≤◌, ◌<◌, length};
 ghost use Rattle.octets.specs.Lists.{over};
-ghost use Rattle.conversion.specs.Conversion.{converted, output_after, Gives};
+ghost use Rattle.conversion.specs.Conversion.{converted, output_after};
+ghost use Rattle.conversion.specs.Told.{Gives};
 ghost use Rattle.uuids.specs.Uuid.{behind_hyphen, text_of, record_of, group_at, formed, text_number, record_number};
 
 use conversion::Converted;

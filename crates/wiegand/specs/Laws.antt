@@ -1,6 +1,6 @@
--- Laws of Wiegand numbers: counts of ones, the bits of a record by their places. Assumes nothing.
-use Rattle.std.specs.Prelude.{◌≡◌, refl, Bool, true, false, cond, List, [], ◌∷◌, ◌++◌, ℕ, zero, suc, ◌+◌, ◌%◌, ◌≤◌, eqb, length, get_or, take, drop, replicate, count_by}
-use Rattle.std.proofs.Common.{subst, sym, zero-add, arith}
+-- Laws of Wiegand numbers: counts of ones, also as a loop makes them, the bits of a record by their places. Assumes nothing.
+use Rattle.std.specs.Prelude.{◌≡◌, refl, Bool, true, false, cond, List, [], ◌∷◌, ◌++◌, ℕ, zero, suc, ◌+◌, ◌%◌, ◌<◌, ◌≤◌, eqb, length, get_or, take, drop, replicate, count_by}
+use Rattle.std.proofs.Common.{subst, sym, zero-add, add-one, arith, drop_of_length-le, drop-cons}
 use Rattle.std.proofs.lemmas.List.Recursion.{is_count_by}
 use Rattle.octets.specs.Lists.{part}
 use Rattle.wiegand.specs.Wiegand.{ones, even_right, odd_right, character, text_bits}
@@ -14,6 +14,15 @@ one-more false n = zero-add n
 pub count-ones : (s : List ℕ) → count_by (λ x. eqb x 1) s ≡ ones s
 unfolding ones
 count-ones s = sym (is_count_by ones (λ x. eqb x 1) refl (λ x r. one-more (eqb x 1) (ones r)) s)
+
+-- one turn of a count, and its end
+pub ones-turn : (s : List ℕ) (i : ℕ) → i < length s → ones (drop i s) ≡ cond (eqb (get_or s i 0) 1) 1 0 + ones (drop (i + 1) s)
+unfolding ones
+ones-turn s i h = rw (add-one, drop-cons s i 0 h)
+
+pub ones-done : (s : List ℕ) (i : ℕ) → length s ≤ i → ones (drop i s) ≡ 0
+unfolding ones
+ones-done s i h = rw (drop_of_length-le s h)
 
 -- the thirteen bits that an even count is asked of, and those of an odd one
 pub even-places : (b : List ℕ) → length b ≡ 32 → even_right (drop 6 b) ≡ eqb (ones (part b 6 13) % 2) 0

@@ -3,7 +3,8 @@
 
 ghost use Rattle.std.specs.Prelude.{◌≡◌, cond, not, map, ℕ, ◌≤◌, length, get_or, drop};
 ghost use Rattle.refusals.specs.Numbers.{number_told};
-ghost use Rattle.conversion.specs.Conversion.{each, converted, output_after, Gives};
+ghost use Rattle.conversion.specs.Conversion.{each, converted, output_after};
+ghost use Rattle.conversion.specs.Told.{Gives};
 ghost use Rattle.wiegand.specs.Wiegand.{is_bit, bit_of, text_bits, ones, parity_right, with_zeros, character, record_of, text_of, text_number, record_number};
 
 use conversion::Converted;

@@ -1,18 +1,7 @@
 -- `each` meets its contract: ok, and one character more (`each_turn`). Assumes nothing.
-use Rattle.std.proofs.Common.{◌≡◌, ℕ, ◌+◌, ◌<◌, Bool, ◌&&◌, List, length, get_or, drop, sym, ap, ◌∙◌, add-one, arith, drop-cons}
-use Rattle.std.proofs.Math.Bool.{and_assoc}
-use Rattle.conversion.specs.Conversion.{each}
+use Rattle.std.proofs.Common.{get_or, arith}
+use Rattle.conversion.specs.Answers.{each_turn}
 use Rattle.conversion.proofs.each.Goals as goal
-
-each_turn : (p : ℕ → Bool) (s : List ℕ) (i : ℕ) (r v : Bool) {r' : Bool} → i < length s → v ≡ p (get_or s i 0) → r' ≡ (r && v) →
-    (r && each p (drop i s)) ≡ each p s → (r' && each p (drop (i + 1) s)) ≡ each p s
-each_turn p s i r v h e q inv =
-    let rest : Bool = each p (drop (i + 1) s) in
-    let more : each p (drop i s) ≡ (p (get_or s i 0) && rest) = rw (add-one, drop-cons s i 0 h) in
-    ap (λ (x : Bool). x && rest) (q ∙ ap (λ (x : Bool). r && x) e)
-    ∙ and_assoc r (p (get_or s i 0)) rest
-    ∙ ap (λ (x : Bool). r && x) (sym more)
-    ∙ inv
 
 pub loop-c-preserved : goal.loop-c-preserved
 loop-c-preserved g c =

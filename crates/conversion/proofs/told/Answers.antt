@@ -1,7 +1,7 @@
 -- `told` meets its contract; written out, so that a wrong answer is shown beside the right one. Assumes nothing.
 use Rattle.std.proofs.Common.{◌≡◌, ℕ, ◌≤◌, List, length, sym, ap, ◌∙◌, arith, rules}
 use Rattle.std.proofs.lemmas.Result.{IfOk-at_ok}
-use Rattle.conversion.specs.Conversion.{told}
+use Rattle.conversion.specs.Told.{told}
 use Rattle.conversion.proofs.told.Goals as goal
 
 pub returns-in-Ok-clause-value : goal.returns-in-Ok-clause-value
