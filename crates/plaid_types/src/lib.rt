@@ -95,6 +95,7 @@ pub struct Mode {
 }
 
 // A slot of the card, empty or not. A card holds its keys in the first L of 32 bytes.
+// `held` is a flag beside the values, and no Option: these are the fields that C reads.
 #[repr(C)]
 #[derive(Clone, Copy)]
 pub struct KeySetSlot {
@@ -104,6 +105,7 @@ pub struct KeySetSlot {
     pub fa_key: [u8; Value::MOST],
 }
 
+// `held` as above.
 #[repr(C)]
 #[derive(Clone, Copy)]
 pub struct ModeSlot {
@@ -113,7 +115,7 @@ pub struct ModeSlot {
     pub len: usize,
 }
 
-// No session, or an open one with KeySetID, RND1 and, by T-07, its FAKey.
+// No session, or an open one with KeySetID, RND1 and, by T-07, its FAKey. `opened` is a flag for C too.
 #[repr(C)]
 #[derive(Clone, Copy)]
 pub struct Session {

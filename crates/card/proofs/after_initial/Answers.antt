@@ -1,5 +1,5 @@
 -- `card::after_initial` meets its contract: what it does not fill in is 0. Assumes nothing.
-use Rattle.std.proofs.Common.{◌≡◌, rules}
+use Rattle.std.proofs.Common.{◌≡◌, refl, rules}
 use Rattle.card.proofs.after_initial.Goals as goal
 
 pub returns : goal.returns
@@ -10,4 +10,4 @@ returns c =
     let e : z.encipherments ≡ 0 = search rules in
     let x : z.expansions ≡ 0 = search rules in
     let h : z.hash_blocks ≡ 0 = search rules in
-    rw (n, d, e, x, h)
+    rw (n, d, e, x, h) refl

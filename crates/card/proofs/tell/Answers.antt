@@ -6,7 +6,6 @@ use lib.ListN.{length}
 use Rattle.frame.specs.Frame.{frame_of, lc_of, data_of}
 use Rattle.frame.specs.Laws.{told-ok, told-err, passed, frame_byte, command-long, data-long}
 use Rattle.frame.specs.Declines.{Verdict}
-use Rattle.frame.specs.Told.{verdict_told}
 use Rattle.plaid_types.specs.KeyLaws.{lawful-most}
 use Rattle.card.specs.Command.{verdict_on}
 use Rattle.card.specs.Ways.{by-decline, by-initial, by-final}
