@@ -11,7 +11,7 @@ pub fn blocks_for(t: usize) -> usize
     t / 16 + 1
 }
 
-// Pads the text in the first t bytes of buf and returns the length of the padded text, or None where it does not fit.
+// Pads the text in the first t bytes of buf and returns the length of the padded text, or None if it does not fit.
 // Blocks are compared, not bytes: their number never overflows.
 pub fn pad(buf: &mut [u8], t: usize) -> Option<usize>
     ensures answer { result ≡ pad_answer (length buf.old) t }
@@ -41,7 +41,7 @@ fn end_from(s: &[u8], start: usize) -> usize
     end
 }
 
-// The length of the text in s, or None where s is not padded rightly. Looks at the last block only, and at all of it.
+// The length of the text in s, or None if s is not padded rightly. Looks at the last block only, and at all of it.
 pub fn unpad(s: &[u8]) -> Option<usize>
     ensures { result ≡ unpadded s.now }
 {
