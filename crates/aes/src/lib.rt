@@ -2,12 +2,13 @@
 #![tactic(auto)]
 
 ghost use Rattle.std.specs.Prelude.{◌≡◌, ◌<◌, length};
-ghost use Rattle.sbox.specs.Rule.{sbox_table, inv_table};
 ghost use Rattle.aes.specs.Aes.{cipher_by, inv_cipher_by};
 
+use sbox::{InvSBox, SBox};
+
 // CIPHER: one block enciphered under Nr + 1 round keys, by the byte table that is lent. It is words from the first round key to the last.
-pub fn encipher(table: &[u8; 256], w: &[[u8; 16]], s: [u8; 16]) -> [u8; 16]
-    requires { (table.now ≡ sbox_table) × (1 < length w.now) }
+pub fn encipher(table: &SBox, w: &[[u8; 16]], s: [u8; 16]) -> [u8; 16]
+    requires { 1 < length w.now }
     ensures { result ≡ cipher_by w.now s }
 {
     let last = w.len() - 1;
@@ -19,8 +20,8 @@ pub fn encipher(table: &[u8; 256], w: &[[u8; 16]], s: [u8; 16]) -> [u8; 16]
 }
 
 // INVCIPHER: one block deciphered, with the round keys from the last to the first.
-pub fn decipher(table: &[u8; 256], w: &[[u8; 16]], s: [u8; 16]) -> [u8; 16]
-    requires { (table.now ≡ inv_table) × (1 < length w.now) }
+pub fn decipher(table: &InvSBox, w: &[[u8; 16]], s: [u8; 16]) -> [u8; 16]
+    requires { 1 < length w.now }
     ensures { result ≡ inv_cipher_by w.now s }
 {
     let last = w.len() - 1;

@@ -1,9 +1,9 @@
 -- Laws of the frame and of what is checked before a command is run: the bytes of a frame are those of the command, and what a call that is not
 -- declined has shown. Assumes nothing.
-use Rattle.std.specs.Prelude.{◌≡◌, refl, Bool, true, false, cond, ◌&&◌, List, ◌++◌, ℕ, ◌+◌, ◌-◌, ◌<◌, ◌≤◌, eqb, ltb, length, get_or, Result, Ok, Err}
+use Rattle.std.specs.Prelude.{◌≡◌, refl, Bool, true, false, cond, ◌&&◌, List, ◌++◌, ℕ, ◌+◌, ◌-◌, ◌<◌, ◌≤◌, eqb, ltb, length, get_or, drop, Result, Ok, Err}
 use Rattle.std.specs.Result.{IsErrAnd}
-use Rattle.std.proofs.Common.{sym, ap, ◌∙◌, arith, length-drop, get_or-append-add}
-use Rattle.std.proofs.Math.Bool.{and-eq-true_iff}
+use Rattle.std.proofs.Common.{sym, ap, ◌∙◌, arith, length-drop, drop_of_length-le, get_or-append-add}
+use Rattle.std.proofs.Math.Bool.{and-eq-true_iff, and-true}
 use borrow.Author.Tests.{eqb-true, ltb-true, ltb-false, eq-eqb, lt-ltb, le-ltb}
 use Rattle.std.proofs.Math.ListN.{get_or-append}
 use Rattle.octets.specs.Lists.{part, length_part, get_or-part}
@@ -217,3 +217,7 @@ data-long c k = length_part c 5 (length c - 6) (omega arith) ∙ omega arith
 pub length-pads : (l : ℕ) (fresh : List ℕ) → length fresh ≡ 253 → length (pad_bytes l fresh) ≡ 253 - str1_length l
 unfolding pad_bytes
 length-pads l fresh e = omega (arith, length-drop (str1_length l) fresh)
+
+-- the look for a zero byte ends where the list does
+pub zero-done : (s : List ℕ) (i : ℕ) (ok all : Bool) → length s ≤ i → (ok && no_zero (drop i s)) ≡ all → ok ≡ all
+zero-done s i ok all h e = sym (ap (λ (l : List ℕ). ok && no_zero l) (drop_of_length-le s {i = i} h) ∙ and-true ok) ∙ e

@@ -3,12 +3,12 @@
 
 ghost use Rattle.std.specs.Prelude.{◌≡◌, true, ◌+◌, ◌*◌, ◌/◌, ◌<◌, ◌≤◌, length, get_or};
 ghost use Rattle.std.specs.Int.Bits.{bit_xor};
-ghost use Rattle.sbox.specs.Rule.{sbox_table};
 ghost use Rattle.column.specs.Word.{word, byte_at};
 ghost use Rattle.key_expansion.specs.KeyLength.{is_key_length};
 ghost use Rattle.key_expansion.specs.Schedule.{bytes_in, temp_at, place, Next, straddled, source_of, row_of, earlier_of, first_row, constant_after, fifteen};
 
 use rounds::Columns;
+use sbox::SBox;
 
 // Whether a key of n bytes is AES's.
 #[tactic(auto, unfolding(crate::specs::KeyLength::is_key_length))]
@@ -32,16 +32,15 @@ fn rot_sub(table: &[u8; 256], w: u32, x: u8) -> u32
 }
 
 // What is added to a word at place j of its Nk, where t is the word before it and x the first byte of Rcon.
-fn temp(table: &[u8; 256], nk: usize, j: usize, t: u32, x: u8) -> u32
-    requires { table.now ≡ sbox_table }
+fn temp(table: &SBox, nk: usize, j: usize, t: u32, x: u8) -> u32
     ensures { bytes_in result ≡ temp_at nk j x (bytes_in t) }
 {
     if j == 0 {
-        return rot_sub(table, t, x);
+        return rot_sub(&table.entries, t, x);
     }
     if 6 < nk {
         if j == 4 {
-            return rounds::looked_up(table, t, t, t, t);
+            return rounds::looked_up(&table.entries, t, t, t, t);
         }
     }
     t
@@ -56,8 +55,8 @@ fn place(nk: usize, j: usize) -> usize
 
 // Four words, from those that stand Nk before them and the last word. The first stands at place j, an even one, so the second and the
 // fourth take the word before them as it is.
-fn next_four(table: &[u8; 256], nk: usize, j: usize, from: Columns, last: u32, x: u8) -> Columns
-    requires { (table.now ≡ sbox_table) × (j < nk) × (nk ≤ 8) }
+fn next_four(table: &SBox, nk: usize, j: usize, from: Columns, last: u32, x: u8) -> Columns
+    requires { (j < nk) × (nk ≤ 8) }
     ensures { Next nk j x from last result }
 {
     let a = from.c0 ^ temp(table, nk, j, last, x);
@@ -141,8 +140,8 @@ struct Made {
     x: u8,
 }
 
-fn turn(table: &[u8; 256], nk: usize, j: usize, older: Columns, newer: Columns, x: u8) -> Made
-    requires { (table.now ≡ sbox_table) × (j < nk) × (nk ≤ 8) }
+fn turn(table: &SBox, nk: usize, j: usize, older: Columns, newer: Columns, x: u8) -> Made
+    requires { (j < nk) × (nk ≤ 8) }
     ensures { Next nk j x (source_of nk older newer) newer.c3 result.next × (result.row ≡ row_of nk newer result.next) × (result.j ≡ place nk (j + 4)) × (result.x ≡ constant_after nk j x) }
 {
     let next = next_four(table, nk, j, source(nk, older, newer), newer.c3, x);
@@ -156,8 +155,7 @@ fn turn(table: &[u8; 256], nk: usize, j: usize, older: Columns, newer: Columns, 
 
 // A key of four words is one row, and so is all that a turn looks back on. Apart from `long_rows` for speed: where Nk is a constant,
 // the compiler leaves out the tests on it (docs/DECISIONS.md has the figures).
-fn short_rows(table: &[u8; 256], key: [u8; 16]) -> [[u8; 16]; 15]
-    requires { table.now ≡ sbox_table }
+fn short_rows(table: &SBox, key: [u8; 16]) -> [[u8; 16]; 15]
     ensures { result ≡ fifteen 4 key }
 {
     let mut w = [[0u8; 16]; 15];
@@ -174,8 +172,8 @@ fn short_rows(table: &[u8; 256], key: [u8; 16]) -> [[u8; 16]; 15]
 }
 
 // A longer key is two rows, of which the first may be a half.
-fn long_rows(table: &[u8; 256], nk: usize, key: &[u8]) -> [[u8; 16]; 15]
-    requires { (table.now ≡ sbox_table) × (is_key_length (4 * nk) ≡ true) × (4 < nk) × (length key.now ≡ 4 * nk) }
+fn long_rows(table: &SBox, nk: usize, key: &[u8]) -> [[u8; 16]; 15]
+    requires { (is_key_length (4 * nk) ≡ true) × (4 < nk) × (length key.now ≡ 4 * nk) }
     ensures { result ≡ fifteen nk key.now }
 {
     let mut w = [[0u8; 16]; 15];
@@ -199,8 +197,8 @@ fn long_rows(table: &[u8; 256], nk: usize, key: &[u8]) -> [[u8; 16]; 15]
 }
 
 // KEYEXPANSION: the Nr + 1 round keys, one a row, and zeros behind them; by the byte table that is lent.
-pub fn expand(table: &[u8; 256], key: &[u8]) -> [[u8; 16]; 15]
-    requires { (table.now ≡ sbox_table) × (is_key_length (length key.now) ≡ true) }
+pub fn expand(table: &SBox, key: &[u8]) -> [[u8; 16]; 15]
+    requires { is_key_length (length key.now) ≡ true }
     ensures { result ≡ fifteen (length key.now / 4) key.now }
 {
     if key.len() == 16 {

@@ -1,7 +1,7 @@
--- Laws of `same`: it is equality of lists, and a fold over the pairs computes it. Assumes nothing.
-use Rattle.std.specs.Prelude.{◌≡◌, refl, Bool, true, false, ◌&&◌, List, [], ◌∷◌, ℕ, eqb, length}
+-- Laws of `same`: it is equality of lists, it goes byte by byte, and a fold over the pairs computes it. Assumes nothing.
+use Rattle.std.specs.Prelude.{◌≡◌, refl, Bool, true, false, ◌&&◌, List, [], ◌∷◌, ℕ, ◌+◌, ◌<◌, ◌≤◌, eqb, length, get_or, drop}
 use Rattle.std.specs.List.{fold, zip}
-use Rattle.std.proofs.Common.{sym, ap₂, ◌∙◌, arith, eq-eqb, eqb-true}
+use Rattle.std.proofs.Common.{sym, ap₂, ◌∙◌, add-one, arith, drop_of_length-le, drop-cons, eq-eqb, eqb-true}
 use mathlib.Core.Bool.{and_assoc}
 use Rattle.std.proofs.Math.Bool.{and-true}
 use Rattle.octets.specs.Bytes.{same}
@@ -29,3 +29,10 @@ same_fold [] [] e r = sym (and-true r)
 same_fold [] (y ∷ b) e r = absurd (omega arith)
 same_fold (x ∷ a) [] e r = absurd (omega arith)
 same_fold (x ∷ a) (y ∷ b) e r = same_fold a b (omega arith) (r && eqb x y) ∙ and_assoc r (eqb x y) (same a b)
+
+-- one byte of each, and the rest
+pub same_drop : (a b : List ℕ) (i : ℕ) → i < length a → i < length b → same (drop i a) (drop i b) ≡ (eqb (get_or a i 0) (get_or b i 0) && same (drop (i + 1) a) (drop (i + 1) b))
+same_drop a b i h k = rw (add-one, drop-cons a i 0, drop-cons b i 0)
+
+pub same-done : (r : Bool) (a b : List ℕ) (i : ℕ) → length a ≤ i → length b ≤ i → (r && same (drop i a) (drop i b)) ≡ r
+same-done r a b i h k = rw (drop_of_length-le a h, drop_of_length-le b k) (and-true r)

@@ -3,11 +3,12 @@
 
 ghost use Rattle.std.specs.Prelude.{◌≡◌, get_or};
 ghost use Rattle.octets.specs.Bytes.{block_xor};
-ghost use Rattle.sbox.specs.Rule.{sbox_table, inv_table};
 ghost use Rattle.column.specs.Word.{word, byte_at};
 ghost use Rattle.rounds.specs.Columns.{state_of};
 ghost use Rattle.rounds.specs.Cipher.{sub_bytes, shift_rows, mix_columns, add_round_key, round, last_round};
 ghost use Rattle.rounds.specs.InvCipher.{inv_sub_bytes, inv_shift_rows, inv_mix_columns, inv_round, inv_last_round};
+
+use sbox::{InvSBox, SBox};
 
 // The columns of a state, from the first. The state that they mean is `state_of`. Four fields and not `[u32; 4]`: a field needs no
 // proof of an index, and `s.c1` is no longer than `s[1]`.
@@ -100,34 +101,31 @@ pub fn looked_up(table: &[u8; 256], a: u32, b: u32, c: u32, d: u32) -> u32
 }
 
 // SUBBYTES and SHIFTROWS: row r of a column comes from the r-th column behind it.
-fn sub_shift(table: &[u8; 256], s: Columns) -> Columns
-    requires { table.now ≡ sbox_table }
+fn sub_shift(table: &SBox, s: Columns) -> Columns
     ensures { state_of result ≡ shift_rows (sub_bytes (state_of s)) }
 {
     Columns {
-        c0: looked_up(table, s.c0, s.c1, s.c2, s.c3),
-        c1: looked_up(table, s.c1, s.c2, s.c3, s.c0),
-        c2: looked_up(table, s.c2, s.c3, s.c0, s.c1),
-        c3: looked_up(table, s.c3, s.c0, s.c1, s.c2),
+        c0: looked_up(&table.entries, s.c0, s.c1, s.c2, s.c3),
+        c1: looked_up(&table.entries, s.c1, s.c2, s.c3, s.c0),
+        c2: looked_up(&table.entries, s.c2, s.c3, s.c0, s.c1),
+        c3: looked_up(&table.entries, s.c3, s.c0, s.c1, s.c2),
     }
 }
 
 // INVSHIFTROWS and INVSUBBYTES: from the r-th column before it.
-fn inv_shift_sub(table: &[u8; 256], s: Columns) -> Columns
-    requires { table.now ≡ inv_table }
+fn inv_shift_sub(table: &InvSBox, s: Columns) -> Columns
     ensures { state_of result ≡ inv_sub_bytes (inv_shift_rows (state_of s)) }
 {
     Columns {
-        c0: looked_up(table, s.c0, s.c3, s.c2, s.c1),
-        c1: looked_up(table, s.c1, s.c0, s.c3, s.c2),
-        c2: looked_up(table, s.c2, s.c1, s.c0, s.c3),
-        c3: looked_up(table, s.c3, s.c2, s.c1, s.c0),
+        c0: looked_up(&table.entries, s.c0, s.c3, s.c2, s.c1),
+        c1: looked_up(&table.entries, s.c1, s.c0, s.c3, s.c2),
+        c2: looked_up(&table.entries, s.c2, s.c1, s.c0, s.c3),
+        c3: looked_up(&table.entries, s.c3, s.c2, s.c1, s.c0),
     }
 }
 
 // One round, with the byte table that is lent.
-pub fn round(table: &[u8; 256], s: Columns, key: [u8; 16]) -> Columns
-    requires { table.now ≡ sbox_table }
+pub fn round(table: &SBox, s: Columns, key: [u8; 16]) -> Columns
     ensures { state_of result ≡ round (state_of s) key }
 {
     let shifted = sub_shift(table, s);
@@ -135,16 +133,14 @@ pub fn round(table: &[u8; 256], s: Columns, key: [u8; 16]) -> Columns
     add_round_key(mixed, key)
 }
 
-pub fn last_round(table: &[u8; 256], s: Columns, key: [u8; 16]) -> Columns
-    requires { table.now ≡ sbox_table }
+pub fn last_round(table: &SBox, s: Columns, key: [u8; 16]) -> Columns
     ensures { state_of result ≡ last_round (state_of s) key }
 {
     let shifted = sub_shift(table, s);
     add_round_key(shifted, key)
 }
 
-pub fn inv_round(table: &[u8; 256], s: Columns, key: [u8; 16]) -> Columns
-    requires { table.now ≡ inv_table }
+pub fn inv_round(table: &InvSBox, s: Columns, key: [u8; 16]) -> Columns
     ensures { state_of result ≡ inv_round (state_of s) key }
 {
     let restored = inv_shift_sub(table, s);
@@ -152,8 +148,7 @@ pub fn inv_round(table: &[u8; 256], s: Columns, key: [u8; 16]) -> Columns
     inv_mix_columns(added)
 }
 
-pub fn inv_last_round(table: &[u8; 256], s: Columns, key: [u8; 16]) -> Columns
-    requires { table.now ≡ inv_table }
+pub fn inv_last_round(table: &InvSBox, s: Columns, key: [u8; 16]) -> Columns
     ensures { state_of result ≡ inv_last_round (state_of s) key }
 {
     let restored = inv_shift_sub(table, s);

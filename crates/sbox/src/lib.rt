@@ -36,16 +36,28 @@ const INV_SBOX: [u8; 256] = [
     214, 38, 225, 105, 20, 99, 85, 33, 12, 125,
 ];
 
-// SBOX. A function that indexes a constant copies it first, so a cipher takes the table once and lends it down.
-pub fn byte_table() -> [u8; 256]
-    ensures { result ≡ sbox_table }
+// FIPS 197's table SBOX. A function that indexes a constant copies it first, so a cipher takes the table once and lends it down.
+pub struct SBox {
+    pub entries: [u8; 256],
+    pub ghost ruled: { entries ≡ sbox_table },
+}
+
+// Its table INVSBOX.
+pub struct InvSBox {
+    pub entries: [u8; 256],
+    pub ghost ruled: { entries ≡ inv_table },
+}
+
+// SBOX.
+pub fn byte_table() -> SBox
+    ensures { result.entries ≡ sbox_table }
 {
-    SBOX
+    SBox { entries: SBOX }
 }
 
 // INVSBOX.
-pub fn inv_byte_table() -> [u8; 256]
-    ensures { result ≡ inv_table }
+pub fn inv_byte_table() -> InvSBox
+    ensures { result.entries ≡ inv_table }
 {
-    INV_SBOX
+    InvSBox { entries: INV_SBOX }
 }

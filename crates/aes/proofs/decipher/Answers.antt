@@ -20,14 +20,14 @@ loop-key-preserved c =
     let l = c.loop-key in
     let t = YieldsList-turn (YieldsList-from_rev_slice (middle w) (cc)) l.yielded _ l.yielded_by _ _ c.in-Some.key c.in-Some.is c.next.ensures.steps in
     let n = length_push l.yielded c.in-Some.key in
-    let b = length_back w c.requires.1 in
+    let b = length_back w c.requires in
     let k : ℕ = length w - 1 - 1 - length l.yielded - 1 in
     let e : length w - 1 - 1 - length l.yielded ≡ suc k = omega (arith, t.0, b) in
     let f : length w - 1 - 1 - (length l.yielded + 1) ≡ k = omega arith in (
       rw n (omega (arith, t.0, b)),
       rw n
           (ap (λ (m : ℕ). inv_rounds w m (state_of c.inv_round-t.result)) f
-          ∙ ap (inv_rounds w k) (c.inv_round-t.ensures ∙ ap (inv_round (state_of l.t)) (back-at w c.requires.1 (length l.yielded) c.in-Some.key.now t.0 t.1 ∙ ap (λ (m : ℕ). get_or w m []) e))
+          ∙ ap (inv_rounds w k) (c.inv_round-t.ensures ∙ ap (inv_round (state_of l.t)) (back-at w c.requires (length l.yielded) c.in-Some.key.now t.0 t.1 ∙ ap (λ (m : ℕ). get_or w m []) e))
           ∙ ap (λ (m : ℕ). inv_rounds w m (state_of l.t)) (sym e)
           ∙ l.invariant.1),
     )
@@ -38,7 +38,7 @@ returns c =
     let w = c.args.w.now in
     let l = c.loop-key in
     let t = YieldsList-end (YieldsList-from_rev_slice (middle w) (cc)) l.yielded _ l.yielded_by _ _ c.in-None.is c.next.ensures.steps in
-    let none : 0 ≡ length w - 1 - 1 - length l.yielded = omega (arith, t.1, length_back w c.requires.1) in
+    let none : 0 ≡ length w - 1 - 1 - length l.yielded = omega (arith, t.1, length_back w c.requires) in
     let first : state_of c.add_round_key-t.result ≡ add_round_key c.args.s (get_or w (length w - 1) []) =
     c.add_round_key-t.ensures ∙ ap (λ (x : List ℕ). add_round_key x (get_or w (length w - 1) [])) c.columns_of.ensures in
     c.bytes_of.ensures

@@ -21,7 +21,7 @@ loop-key-preserved c =
     let z = state_of c.add_round_key-t.result in
     let e : suc l.key-index ≡ l.key-index + 1 = omega arith in
     c.round-t.ensures
-    ∙ ap (round (state_of l.t)) (middle-at w c.requires.1 l.key-index [] c.loop-key-test.true)
+    ∙ ap (round (state_of l.t)) (middle-at w c.requires l.key-index [] c.loop-key-test.true)
     ∙ ap (λ (x : List ℕ). round x (get_or w (suc l.key-index) [])) l.invariant
     ∙ ap (λ (n : ℕ). rounds w n z) e
 
@@ -30,7 +30,7 @@ unfolding cipher
 returns c =
     let w = c.args.w.now in
     let l = c.loop-key in
-    let all : l.key-index ≡ length w - 1 - 1 = omega (arith, length_middle w c.requires.1) in
+    let all : l.key-index ≡ length w - 1 - 1 = omega (arith, length_middle w c.requires) in
     let first : state_of c.add_round_key-t.result ≡ add_round_key c.args.s (get_or w 0 []) =
     c.add_round_key-t.ensures ∙ ap (λ (x : List ℕ). add_round_key x (get_or w 0 [])) c.columns_of.ensures in
     c.bytes_of.ensures

@@ -18,6 +18,4 @@ returns-then-key-eq16 c =
     ∙ ap (λ (n : ℕ). fifteen (n / 4) key) (sym l)
 
 pub long_rows-requires : goal.long_rows-requires
-long_rows-requires c =
-    let l = longer (length c.args.key.now) c.requires.1 c.if-key-eq16.false in
-    (c.requires.0, l.0, l.1, l.2)
+long_rows-requires c = longer (length c.args.key.now) c.requires c.if-key-eq16.false

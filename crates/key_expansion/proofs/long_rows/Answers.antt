@@ -14,7 +14,7 @@ loop-i-init c =
     let r = c.first_row-i in
     let nk = c.args.nk in
     let key = c.args.key.now in
-    let kl = c.requires.1 in
+    let kl = c.requires.0 in
     let first = c.block_at-first in
     let f = key-words nk key c.columns_of.result 0 (omega (arith, length-least (4 * nk) kl)) (c.columns_of.ensures ∙ first.ensures) in
     let e : 4 * (nk - 4) ≡ 4 * nk - 16 = omega arith in
@@ -29,11 +29,11 @@ loop-i-preserved c =
     let t = c.turn-t in
     let lt = c.loop-i-test.true in
     let e = t.ensures in
-    made_more c.args.nk c.args.key.now c.requires.1 l.older l.newer t.result.next l.j l.x l.i (search rules) lt l.invariant e.0 e.1 e.2 e.3 c.bytes_of.ensures
+    made_more c.args.nk c.args.key.now c.requires.0 l.older l.newer t.result.next l.j l.x l.i (search rules) lt l.invariant e.0 e.1 e.2 e.3 c.bytes_of.ensures
 
 pub returns : goal.returns
 returns c =
     let l = c.loop-i in
-    made_all c.args.nk c.args.key.now c.requires.1 _ l.w l.i (search rules)
+    made_all c.args.nk c.args.key.now c.requires.0 _ l.w l.i (search rules)
     (λ k h d. behind-two _ _ k (omega arith) d)
     c.loop-i-test.false l.invariant

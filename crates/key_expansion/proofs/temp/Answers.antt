@@ -9,13 +9,13 @@ use Rattle.key_expansion.proofs.temp.Goals as goal
 pub returns-then-j-eq0 : goal.returns-then-j-eq0
 returns-then-j-eq0 c =
     let a = c.args in
-    bytes-rot-sub a.t a.table.now c.requires a.x c.rot_sub.result (search rules) c.rot_sub.ensures
+    bytes-rot-sub a.t a.table.now.entries a.table.now.ruled a.x c.rot_sub.result (search rules) c.rot_sub.ensures
     ∙ sym (temp-first a.nk a.j a.x (bytes_in a.t) c.if-j-eq0.true)
 
 pub returns-then-j-eq4 : goal.returns-then-j-eq4
 returns-then-j-eq4 c =
     let a = c.args in
-    bytes-sub a.t a.table.now c.requires c.looked_up.result c.looked_up.ensures
+    bytes-sub a.t a.table.now.entries a.table.now.ruled c.looked_up.result c.looked_up.ensures
     ∙ sym (temp-fourth a.nk a.j a.x (bytes_in a.t) c.if-nk-gt6.true c.if-j-eq4.true)
 
 pub returns-else-j-eq4 : goal.returns-else-j-eq4

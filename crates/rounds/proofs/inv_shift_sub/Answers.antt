@@ -7,4 +7,4 @@ use Rattle.rounds.proofs.inv_shift_sub.Goals as goal
 
 pub returns : goal.returns
 returns c =
-    looked c.args.s inv_sbox inv_sbox-lt (λ r i. (i + (4 - r)) % 4) c.requires c.looked_up.ensures c.looked_up-2.ensures c.looked_up-3.ensures c.looked_up-4.ensures
+    looked c.args.s inv_sbox inv_sbox-lt (λ r i. (i + (4 - r)) % 4) c.args.table.now.ruled c.looked_up.ensures c.looked_up-2.ensures c.looked_up-3.ensures c.looked_up-4.ensures

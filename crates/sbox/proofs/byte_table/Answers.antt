@@ -4,6 +4,6 @@ use Rattle.sbox.specs.SubBytes.{sbox}
 use Rattle.sbox.specs.Rule.{sbox-ruled}
 use Rattle.sbox.proofs.byte_table.Goals as goal
 
-pub returns : goal.returns
+pub invariant_of-result : goal.invariant_of-result
 unfolding sbox
-returns c = sbox-ruled _ refl tt
+invariant_of-result c = record { ruled = sbox-ruled _ refl tt }

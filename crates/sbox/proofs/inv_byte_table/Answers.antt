@@ -4,6 +4,6 @@ use Rattle.sbox.specs.InvSubBytes.{inv_sbox}
 use Rattle.sbox.specs.Rule.{inv-ruled}
 use Rattle.sbox.proofs.inv_byte_table.Goals as goal
 
-pub returns : goal.returns
+pub invariant_of-result : goal.invariant_of-result
 unfolding inv_sbox
-returns c = inv-ruled _ refl tt
+invariant_of-result c = record { ruled = inv-ruled _ refl tt }
