@@ -6,4 +6,4 @@ use Rattle.work.specs.Steps.{mixed_all}
 use Rattle.work.proofs.mix_rows.Given as goal
 
 abbrev pub invariant-loop-row : goal.invariant-loop-row
-invariant-loop-row l = mixed_all l.sum (flatten (drop l.row-index l.rows)) ≡ mixed_all l.s (flatten l.rows)
+invariant-loop-row l = mixed_all l.sum (flatten (drop l.row l.rows)) ≡ mixed_all l.s (flatten l.rows)
