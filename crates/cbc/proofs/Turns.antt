@@ -1,4 +1,5 @@
 -- A turn of CBC in place: what is done of the text and what is left to do make the same whole, and so do the steps. Assumes nothing.
+use Rattle.std.specs.Prelude.{⊤}
 use mathlib.Core.Path.{◌≡◌, sym, ap, ap₂, ◌∙◌}
 use mathlib.Core.List.{List, ◌++◌, append_assoc}
 use Prim.Native.Nat.{ℕ, suc, ◌+◌, ◌-◌, ◌<◌, ◌≤◌}
@@ -6,8 +7,8 @@ use native.Mathlib.Omega.{arith}
 use lib.ListN.{length, take, drop, length-append, length-drop, take-append-drop}
 use lib.Seq.{take_at, drop_at, drop-drop, length-take-le}
 use Rattle.octets.specs.Lists.{part, over}
+use Rattle.work.specs.declared.Made.{Made}
 use Rattle.work.specs.Steps.{bytes_of, mixed_all, sum_from, decipherment, encipherment}
-use Rattle.cbc.specs.declared.Made.{Made}
 use Rattle.cbc.specs.Cbc.{◌⊕◌}
 use Rattle.cbc.specs.Steps.{encipher_step, decipher_step, enciphered, deciphered, made}
 use Rattle.cbc.specs.Chain.{whole, whole-more, whole-none}
@@ -64,7 +65,7 @@ text-done out next c text all at h e =
     ∙ ap (λ (x : List ℕ). take at text ++ x) (sym (whole-none out next c (drop at text) (omega (arith, length-drop at text))))
     ∙ e
 
-told : {n m s t : ℕ} → n ≡ m → s ≡ t → ◌≡◌ {A = Made} (record { count = n; sum = s }) (record { count = m; sum = t })
+told : {n m s t : ℕ} → n ≡ m → s ≡ t → ◌≡◌ {A = Made ⊤} (record { value = tt; count = n; sum = s }) (record { value = tt; count = m; sum = t })
 told p q = rw (p, q)
 
 -- all n steps made: how many they are, and the work sum
@@ -73,11 +74,11 @@ module _ (key : List ℕ) (f : List ℕ → List ℕ) (text text₀ : List ℕ) 
   none_left = omega arith
 
   pub enciphered-done : (c c₀ : List ℕ) → sum_from sum (enciphered key f c (n - j) text) ≡ sum_from sum₀ (enciphered key f c₀ n text₀) →
-      record { count = count; sum = sum } ≡ made encipherment sum₀ (enciphered key f c₀ n text₀)
+      ◌≡◌ {A = Made ⊤} (record { value = tt; count = count; sum = sum }) (made encipherment sum₀ (enciphered key f c₀ n text₀))
   unfolding enciphered
   enciphered-done c c₀ e = told (counted_all ∙ sym (counted-enciphered key f n c₀ text₀)) (rw none_left at e)
 
   pub deciphered-done : sum_from sum (deciphered key f (n - j) text) ≡ sum_from sum₀ (deciphered key f n text₀) →
-      record { count = count; sum = sum } ≡ made decipherment sum₀ (deciphered key f n text₀)
+      ◌≡◌ {A = Made ⊤} (record { value = tt; count = count; sum = sum }) (made decipherment sum₀ (deciphered key f n text₀))
   unfolding deciphered
   deciphered-done e = told (counted_all ∙ sym (counted-deciphered key f n text₀)) (rw none_left at e)

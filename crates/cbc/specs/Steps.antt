@@ -1,9 +1,9 @@
 -- The cipher steps of CBC: "A cipher step has AES's own blocks, without the CBC sum."
-use Rattle.std.specs.Prelude.{List, [], ◌∷◌, ℕ, zero, suc, drop}
+use Rattle.std.specs.Prelude.{⊤, List, [], ◌∷◌, ℕ, zero, suc, drop}
 use Rattle.octets.specs.Lists.{part}
 use Rattle.work.specs.Steps.{Step, decipherment, encipherment, counted, sum_from}
+use Rattle.work.specs.declared.Made.{Made}
 use Rattle.cbc.specs.Cbc.{◌⊕◌}
-use Rattle.cbc.specs.declared.Made.{Made}
 
 -- a block x through the cipher, and through its inverse
 abbrev pub encipher_step : List ℕ → (List ℕ → List ℕ) → List ℕ → Step
@@ -25,5 +25,5 @@ deciphered key inv zero s = []
 deciphered key inv (suc n) s = decipher_step key inv (part s 0 16) ∷ deciphered key inv n (drop 16 s)
 
 -- what is told of steps of one kind: how many there are, and the work sum after them
-abbrev pub made : ℕ → ℕ → List Step → Made
-made kind sum steps = record { count = counted kind steps; sum = sum_from sum steps }
+abbrev pub made : ℕ → ℕ → List Step → Made ⊤
+made kind sum steps = record { value = tt; count = counted kind steps; sum = sum_from sum steps }

@@ -11,22 +11,7 @@ ghost use Rattle.work.specs.Weights.{mixed_prepared};
 ghost use Rattle.cbc.specs.Cbc.{◌⊕◌, encrypted_whole, decrypted_whole};
 ghost use Rattle.cbc.specs.Steps.{enciphered, deciphered, made};
 
-use work::{Kind, Prepared};
-
-// How many steps were made, and the work sum after them.
-#[derive(Clone, Copy)]
-pub struct Made {
-    pub count: usize,
-    pub sum: u32,
-}
-
-// The block that a step's turn puts out, with the count and the work sum after the step.
-#[derive(Clone, Copy)]
-struct Stepped {
-    block: [u8; 16],
-    count: usize,
-    sum: u32,
-}
+use work::{Kind, Made, Prepared};
 
 // One block encrypted after the block before it. The key is only what the work sum shows, and prepared for that.
 fn encipher_block(
@@ -37,15 +22,15 @@ fn encipher_block(
     plain: [u8; 16],
     count: usize,
     sum: u32,
-) -> Stepped
+) -> Made<[u8; 16]>
     requires { (table.now ≡ sbox_table) × (count + 1 < 2 ^ 64) × (1 < length w.now) }
-    ensures { (result.block ≡ cipher_by w.now (plain ⊕ before)) × (result.count ≡ count + 1) × (result.sum ≡ mixed_all (mixed_all (mixed_prepared (mixed sum encipherment) key) (plain ⊕ before)) (cipher_by w.now (plain ⊕ before))) }
+    ensures { (result.value ≡ cipher_by w.now (plain ⊕ before)) × (result.count ≡ count + 1) × (result.sum ≡ mixed_all (mixed_all (mixed_prepared (mixed sum encipherment) key) (plain ⊕ before)) (cipher_by w.now (plain ⊕ before))) }
 {
     let input = rounds::xor_block(plain, before);
     let output = aes::encipher(table, w, input);
     let made = count + 1;
-    Stepped {
-        block: output,
+    Made {
+        value: output,
         count: made,
         sum: work::mix_cipher(sum, Kind::Encipherment.number(), key, input, output),
     }
@@ -60,22 +45,22 @@ fn decipher_block(
     cipher: [u8; 16],
     count: usize,
     sum: u32,
-) -> Stepped
+) -> Made<[u8; 16]>
     requires { (table.now ≡ inv_table) × (count + 1 < 2 ^ 64) × (1 < length w.now) }
-    ensures { (result.block ≡ inv_cipher_by w.now cipher ⊕ before) × (result.count ≡ count + 1) × (result.sum ≡ mixed_all (mixed_all (mixed_prepared (mixed sum decipherment) key) cipher) (inv_cipher_by w.now cipher)) }
+    ensures { (result.value ≡ inv_cipher_by w.now cipher ⊕ before) × (result.count ≡ count + 1) × (result.sum ≡ mixed_all (mixed_all (mixed_prepared (mixed sum decipherment) key) cipher) (inv_cipher_by w.now cipher)) }
 {
     let output = aes::decipher(table, w, cipher);
     let plain = rounds::xor_block(output, before);
     let made = count + 1;
-    Stepped {
-        block: plain,
+    Made {
+        value: plain,
         count: made,
         sum: work::mix_cipher(sum, Kind::Decipherment.number(), key, cipher, output),
     }
 }
 
 // CBC encryption of the whole blocks of the text, in place. What stands behind them stays.
-pub fn encipher(key: &[u8], w: &[[u8; 16]], start: [u8; 16], text: &mut [u8], sum: u32) -> Made
+pub fn encipher(key: &[u8], w: &[[u8; 16]], start: [u8; 16], text: &mut [u8], sum: u32) -> Made<()>
     requires { 1 < length w.now }
     ensures { (result ≡ made encipherment sum (enciphered key.now (cipher_by w.now) start (length text.old / 16) text.old)) × (text.new ≡ encrypted_whole (cipher_by w.now) start text.old) }
 {
@@ -89,20 +74,21 @@ pub fn encipher(key: &[u8], w: &[[u8; 16]], start: [u8; 16], text: &mut [u8], su
         let at = 16 * n;
         let plain = octets::block_at(text, at);
         let step = encipher_block(&table, shown, w, chained, plain, count, after);
-        let cipher = step.block;
+        let cipher = step.value;
         octets::copy_at(text, at, &cipher);
         chained = cipher;
         count = step.count;
         after = step.sum;
     }
     Made {
+        value: (),
         count: count,
         sum: after,
     }
 }
 
 // CBC decryption of the whole blocks of the text, in place. What stands behind them stays.
-pub fn decipher(key: &[u8], w: &[[u8; 16]], start: [u8; 16], text: &mut [u8], sum: u32) -> Made
+pub fn decipher(key: &[u8], w: &[[u8; 16]], start: [u8; 16], text: &mut [u8], sum: u32) -> Made<()>
     requires { 1 < length w.now }
     ensures { (result ≡ made decipherment sum (deciphered key.now (inv_cipher_by w.now) (length text.old / 16) text.old)) × (text.new ≡ decrypted_whole (inv_cipher_by w.now) start text.old) }
 {
@@ -116,13 +102,14 @@ pub fn decipher(key: &[u8], w: &[[u8; 16]], start: [u8; 16], text: &mut [u8], su
         let at = 16 * n;
         let cipher = octets::block_at(text, at);
         let step = decipher_block(&table, shown, w, previous, cipher, count, after);
-        let plain = step.block;
+        let plain = step.value;
         octets::copy_at(text, at, &plain);
         previous = cipher;
         count = step.count;
         after = step.sum;
     }
     Made {
+        value: (),
         count: count,
         sum: after,
     }
@@ -135,7 +122,7 @@ pub fn encipher_under(
     start: [u8; 16],
     text: &mut [u8],
     sum: u32,
-) -> Made
+) -> Made<()>
     requires { (is_key_length (length key.now) ≡ true) × (rows.now ≡ fifteen (length key.now / 4) key.now) }
     ensures { (result ≡ made encipherment sum (enciphered key.now (aes_under key.now) start (length text.old / 16) text.old)) × (text.new ≡ encrypted_whole (aes_under key.now) start text.old) }
 {
@@ -149,7 +136,7 @@ pub fn decipher_under(
     start: [u8; 16],
     text: &mut [u8],
     sum: u32,
-) -> Made
+) -> Made<()>
     requires { (is_key_length (length key.now) ≡ true) × (rows.now ≡ fifteen (length key.now / 4) key.now) }
     ensures { (result ≡ made decipherment sum (deciphered key.now (inv_aes_under key.now) (length text.old / 16) text.old)) × (text.new ≡ decrypted_whole (inv_aes_under key.now) start text.old) }
 {

@@ -22,7 +22,7 @@ decipher_block-step-requires c = (c.inv_byte_table-table.ensures, search rules, 
 pub copy_at-requires : goal.copy_at-requires
 copy_at-requires c =
     let step = c.decipher_block-step in
-    let long : length step.result.block ≡ 16 = search (rules, step.type_inv) in
+    let long : length step.result.value ≡ 16 = search (rules, step.type_inv) in
     omega arith
 
 pub loop-n-preserved : goal.loop-n-preserved
@@ -34,7 +34,7 @@ loop-n-preserved c =
     let step = c.decipher_block-step in
     let x = c.block_at-cipher.ensures in
     let y = step.ensures.0 ∙ ap (λ z. f z ⊕ c.loop-n.previous) x in
-    let long : length step.result.block ≡ 16 = search (rules, step.type_inv) in
+    let long : length step.result.value ≡ 16 = search (rules, step.type_inv) in
     let text = c.loop-n.text in
     let now = c.copy_at.new.d in
     let put = c.copy_at.ensures in
