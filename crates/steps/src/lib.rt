@@ -21,26 +21,12 @@ ghost use Rattle.steps.specs.Made.{
 };
 
 use plaid_types::{KeySetId, OpModeId};
-use work::Kind;
+use work::{Kind, Made};
 
-#[derive(Clone, Copy)]
-pub struct Expanded {
-    pub rows: [[u8; 16]; 15],
-    pub count: usize,
-    pub sum: u32,
-}
-
-// The round keys of an expansion.
-pub fn round_keys(e: Expanded) -> [[u8; 16]; 15]
-    ensures { result ≡ e.rows }
-{
-    e.rows
-}
-
-// Expands a key. The work sum has the round keys alone, not the zeros after them.
-pub fn expand(table: &[u8; 256], key: &[u8], sum: u32) -> Expanded
+// Expands a key: its round keys. The work sum has the round keys alone, not the zeros after them.
+pub fn expand(table: &[u8; 256], key: &[u8], sum: u32) -> Made<[[u8; 16]; 15]>
     requires { (table.now ≡ sbox_table) × (is_key_length (length key.now) ≡ true) }
-    ensures { result ≡ record { rows = fifteen (length key.now / 4) key.now; count = counted expansion (expansion_step key.now ∷ []); sum = sum_from sum (expansion_step key.now ∷ []) } }
+    ensures { result ≡ record { value = fifteen (length key.now / 4) key.now; count = counted expansion (expansion_step key.now ∷ []); sum = sum_from sum (expansion_step key.now ∷ []) } }
 {
     let rows = key_expansion::expand(table, key);
     let n = key.len() / 4 + 7;
@@ -48,23 +34,16 @@ pub fn expand(table: &[u8; 256], key: &[u8], sum: u32) -> Expanded
     let b = work::mix_all(a, key);
     let c = work::mix_rows(b, &rows[..n]);
     let count = 1;
-    Expanded {
-        rows,
+    Made {
+        value: rows,
         count,
         sum: c,
     }
 }
 
-#[derive(Clone, Copy)]
-pub struct Hashing {
-    pub digest: [u8; 32],
-    pub count: usize,
-    pub sum: u32,
-}
-
 // Hashes a message, block by block.
-pub fn hash(m: &[u8], sum: u32) -> Hashing
-    ensures { result ≡ record { digest = sha256 m.now; count = counted hash_block (hash_steps m.now); sum = sum_from sum (hash_steps m.now) } }
+pub fn hash(m: &[u8], sum: u32) -> Made<[u8; 32]>
+    ensures { result ≡ record { value = sha256 m.now; count = counted hash_block (hash_steps m.now); sum = sum_from sum (hash_steps m.now) } }
 {
     let n = sha_padding::block_count(m);
     let mut h = sha256::initial();
@@ -76,18 +55,11 @@ pub fn hash(m: &[u8], sum: u32) -> Hashing
         s = work::mix_step(s, Kind::HashBlock.number(), &[], &b, &o);
         h = x;
     }
-    Hashing {
-        digest: sha256::to_bytes(h),
+    Made {
+        value: sha256::to_bytes(h),
         count: n,
         sum: s,
     }
-}
-
-#[derive(Clone, Copy)]
-pub struct Compared {
-    pub hit: bool,
-    pub count: usize,
-    pub sum: u32,
 }
 
 // The bytes of a value, none for one that is missing or empty.
@@ -104,31 +76,31 @@ fn matches(present: bool, v: u16, held: bool, w: u16) -> bool
 }
 
 // Compares a value, which may be missing, with a slot's, which may be empty.
-fn compare(present: bool, v: u16, held: bool, w: u16, sum: u32) -> Compared
-    ensures { result ≡ record { hit = matched present v held w; count = counted comparison (comparison_step present v held w ∷ []); sum = sum_from sum (comparison_step present v held w ∷ []) } }
+fn compare(present: bool, v: u16, held: bool, w: u16, sum: u32) -> Made<bool>
+    ensures { result ≡ record { value = matched present v held w; count = counted comparison (comparison_step present v held w ∷ []); sum = sum_from sum (comparison_step present v held w ∷ []) } }
 {
     let hit = matches(present, v, held, w);
     let a = work::mix(sum, Kind::Comparison.number());
     let b = mix_shown(a, present, v);
     let c = mix_shown(b, held, w);
     let d = work::mix(c, u8::from(hit));
-    Compared {
-        hit,
+    Made {
+        value: hit,
         count: 1,
         sum: d,
     }
 }
 
 // A place's KeySetID, which may be missing, and a key set slot's.
-pub fn compare_sets(present: bool, v: KeySetId, held: bool, w: KeySetId, sum: u32) -> Compared
-    ensures { result ≡ record { hit = set_matched present v held w; count = counted comparison (set_comparison present v held w ∷ []); sum = sum_from sum (set_comparison present v held w ∷ []) } }
+pub fn compare_sets(present: bool, v: KeySetId, held: bool, w: KeySetId, sum: u32) -> Made<bool>
+    ensures { result ≡ record { value = set_matched present v held w; count = counted comparison (set_comparison present v held w ∷ []); sum = sum_from sum (set_comparison present v held w ∷ []) } }
 {
     compare(present, v.0, held, w.0, sum)
 }
 
 // A text's OpModeID and a mode slot's.
-pub fn compare_modes(v: OpModeId, held: bool, w: OpModeId, sum: u32) -> Compared
-    ensures { result ≡ record { hit = mode_matched v held w; count = counted comparison (mode_comparison v held w ∷ []); sum = sum_from sum (mode_comparison v held w ∷ []) } }
+pub fn compare_modes(v: OpModeId, held: bool, w: OpModeId, sum: u32) -> Made<bool>
+    ensures { result ≡ record { value = mode_matched v held w; count = counted comparison (mode_comparison v held w ∷ []); sum = sum_from sum (mode_comparison v held w ∷ []) } }
 {
     compare(true, v.0, held, w.0, sum)
 }

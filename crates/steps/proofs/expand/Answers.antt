@@ -10,13 +10,13 @@ use Rattle.key_expansion.specs.Schedule.{fifteen}
 use Rattle.aes.specs.Rows.{lent, length-lent}
 use Rattle.work.specs.Steps.{expansion, mixed, mixed_all, sum_from}
 use Rattle.work.specs.Laws.{mixed_all-append}
-use Rattle.steps.specs.declared.Expanded.{Expanded}
+use Rattle.work.specs.declared.Made.{Made}
 use Rattle.steps.specs.Made.{expansion_step}
 use Rattle.std.proofs.Common.{rules}
 use Rattle.steps.proofs.expand.Goals as goal
 
-abbrev made : List (List ℕ) → ℕ → Expanded
-made w s = record { rows = w; count = 1; sum = s }
+abbrev made : List (List ℕ) → ℕ → Made (List (List ℕ))
+made w s = record { value = w; count = 1; sum = s }
 
 summed : (key : List ℕ) (w : List (List ℕ)) (s : ℕ) → mixed_all (mixed_all (mixed s expansion) key) (flatten w) ≡ mixed_all s (expansion ∷ (key ++ [] ++ flatten w))
 summed key w s =
@@ -41,6 +41,11 @@ pub slice_bounds-mix_rows-end : goal.slice_bounds-mix_rows-end
 slice_bounds-mix_rows-end c =
     let k = c.args.key.now in
     sym (length-lent k c.expand-rows.ensures)
+
+pub mix_rows-c-requires : goal.mix_rows-c-requires
+mix_rows-c-requires c =
+    let k = c.args.key.now in
+    omega (arith, length-lent k c.expand-rows.ensures, length_most (length k) c.requires.1)
 
 pub returns : goal.returns
 returns c =

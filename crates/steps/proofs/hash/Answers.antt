@@ -8,14 +8,14 @@ use Rattle.octets.specs.Lists.{table}
 use Rattle.sha_padding.specs.Parsing.{blocks}
 use Rattle.sha_block.specs.Hash.{state_after, digest_bytes, sha256}
 use Rattle.work.specs.Steps.{hash_block, sum_from}
-use Rattle.steps.specs.declared.Hashing.{Hashing}
+use Rattle.work.specs.declared.Made.{Made}
 use Rattle.steps.specs.Made.{hash_step, hash_steps}
 use Rattle.steps.specs.Laws.{counted-hash}
 use Rattle.steps.proofs.Turns.{state-turn, sum-turn}
 use Rattle.steps.proofs.hash.Goals as goal
 
-hashed-same : {d d' : List ℕ} {n n' s s' : ℕ} → d ≡ d' → n ≡ n' → s ≡ s' → ◌≡◌ {A = Hashing} (record { digest = d; count = n; sum = s }) (record { digest = d'; count = n'; sum = s' })
-hashed-same p q r = λ i. record { digest = p i; count = q i; sum = r i }
+hashed-same : {d d' : List ℕ} {n n' s s' : ℕ} → d ≡ d' → n ≡ n' → s ≡ s' → ◌≡◌ {A = Made (List ℕ)} (record { value = d; count = n; sum = s }) (record { value = d'; count = n'; sum = s' })
+hashed-same p q r = λ i. record { value = p i; count = q i; sum = r i }
 
 pub loop-i-init : goal.loop-i-init
 unfolding state_after hash_steps
