@@ -20,10 +20,10 @@ use Rattle.key_expansion.specs.Filling.{length-round_keys}
 use Rattle.aes.specs.Aes.{aes_under, cipher_by}
 use Rattle.aes.specs.Rows.{rows-aes}
 use Rattle.aes.specs.RoundTrip.{length-aes, aes-block}
+use Rattle.work.specs.declared.Made.{Made}
 use Rattle.work.specs.Steps.{Step, encipherment, counted, sum_from, mixed_all, bytes_of}
 use Rattle.cbc.specs.Steps.{encipher_step}
 use Rattle.plaid_types.specs.Keys.{wide}
-use Rattle.diversification.specs.declared.Diversified.{Diversified}
 use Rattle.diversification.specs.Diversification.{flipped, diversified_by, diversify_steps}
 
 -- the FAKey's rows encipher under it
@@ -112,22 +112,22 @@ counted-diversify k fa div = by (ltb 16 (length fa))
     by false = omega arith
 
 -- what is told of one encipherment, and of two: x and y are their blocks, and d and e the sums after them
-abbrev pub told : List ℕ → List ℕ → ℕ → Diversified
-told fa div sum = record { key = wide (diversified_by fa div); count = counted encipherment (diversify_steps fa div); sum = sum_from sum (diversify_steps fa div) }
+abbrev pub told : List ℕ → List ℕ → ℕ → Made (List ℕ)
+told fa div sum = record { value = wide (diversified_by fa div); count = counted encipherment (diversify_steps fa div); sum = sum_from sum (diversify_steps fa div) }
 
-same : {k k' : List ℕ} {n n' s s' : ℕ} → k ≡ k' → n ≡ n' → s ≡ s' → ◌≡◌ {A = Diversified} (record { key = k; count = n; sum = s }) (record { key = k'; count = n'; sum = s' })
+same : {k k' : List ℕ} {n n' s s' : ℕ} → k ≡ k' → n ≡ n' → s ≡ s' → ◌≡◌ {A = Made (List ℕ)} (record { value = k; count = n; sum = s }) (record { value = k'; count = n'; sum = s' })
 same p q r = cc
 
 module _ (fa div : List ℕ) (sum : ℕ) where
   abbrev step : List ℕ → Step
   step x = encipher_step fa (aes_under fa) x
 
-  pub told-short : length fa ≡ 16 → {k : List ℕ} {d : ℕ} → k ≡ over (replicate 32 0) 0 (aes_under fa div) → d ≡ mixed_all sum (bytes_of (step div)) → ◌≡◌ {A = Diversified} (record { key = k; count = 1; sum = d }) (told fa div sum)
+  pub told-short : length fa ≡ 16 → {k : List ℕ} {d : ℕ} → k ≡ over (replicate 32 0) 0 (aes_under fa div) → d ≡ mixed_all sum (bytes_of (step div)) → ◌≡◌ {A = Made (List ℕ)} (record { value = k; count = 1; sum = d }) (told fa div sum)
   unfolding diversify_steps
   told-short e q r = same (made-short fa div e q) (ap (λ (n : ℕ). 1 + counted encipherment (cond (ltb 16 n) (step (flipped div) ∷ []) [])) (sym e)) (r ∙ ap (λ (n : ℕ). sum_from sum (step div ∷ cond (ltb 16 n) (step (flipped div) ∷ []) [])) (sym e))
 
   pub told-long : 16 < length fa → {k k' y : List ℕ} {d e : ℕ} → k ≡ over (replicate 32 0) 0 (aes_under fa div) → y ≡ aes_under fa (flipped div) → k' ≡ over k 16 (take (length fa - 16) y) →
-      d ≡ mixed_all sum (bytes_of (step div)) → e ≡ mixed_all d (bytes_of (step (flipped div))) → ◌≡◌ {A = Diversified} (record { key = k'; count = 2; sum = e }) (told fa div sum)
+      d ≡ mixed_all sum (bytes_of (step div)) → e ≡ mixed_all d (bytes_of (step (flipped div))) → ◌≡◌ {A = Made (List ℕ)} (record { value = k'; count = 2; sum = e }) (told fa div sum)
   unfolding diversify_steps
   told-long h {k} q ey q' r r' =
       let t = sym (lt-ltb 16 (length fa) h) in

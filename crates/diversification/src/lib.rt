@@ -9,15 +9,7 @@ ghost use Rattle.work.specs.Steps.{encipherment, counted, sum_from};
 ghost use Rattle.plaid_types.specs.Keys.{wide};
 ghost use Rattle.diversification.specs.Diversification.{flipped, diversified_by, diversify_steps};
 
-use work::{Kind, Prepared};
-
-// The diversified key, in the first of 32 bytes, with the count and the work sum of the encipherments that made it.
-#[derive(Clone, Copy)]
-pub struct Diversified {
-    pub key: [u8; 32],
-    pub count: usize,
-    pub sum: u32,
-}
+use work::{Kind, Made, Prepared};
 
 // The top bit of the first byte flipped.
 fn flip(div: [u8; 16]) -> [u8; 16]
@@ -28,16 +20,16 @@ fn flip(div: [u8; 16]) -> [u8; 16]
     other
 }
 
-// By AES itself: one step for a FAKey of 16 bytes, and two for a longer one. The rows are the FAKey's.
+// The diversified key, in the first of 32 bytes. By AES itself: one step for a FAKey of 16 bytes, and two for a longer one. The rows are the FAKey's.
 pub fn diversify(
     table: &[u8; 256],
     fa_key: &[u8],
     w: &[[u8; 16]],
     div: [u8; 16],
     sum: u32,
-) -> Diversified
+) -> Made<[u8; 32]>
     requires { (table.now ≡ sbox_table) × (is_key_length (length fa_key.now) ≡ true) × (w.now ≡ round_keys (length fa_key.now / 4) fa_key.now) }
-    ensures { result ≡ record { key = wide (diversified_by fa_key.now div); count = counted encipherment (diversify_steps fa_key.now div); sum = sum_from sum (diversify_steps fa_key.now div) } }
+    ensures { result ≡ record { value = wide (diversified_by fa_key.now div); count = counted encipherment (diversify_steps fa_key.now div); sum = sum_from sum (diversify_steps fa_key.now div) } }
 {
     let shown = work::prepare(fa_key);
     let first = aes::encipher(table, w, div);
@@ -50,14 +42,14 @@ pub fn diversify(
         let second = aes::encipher(table, w, other);
         let rest = fa_key.len() - 16;
         octets::copy_at(&mut key, 16, &second[..rest]);
-        return Diversified {
-            key,
+        return Made {
+            value: key,
             count: 2,
             sum: work::mix_cipher(after, kind, shown, other, second),
         };
     }
-    Diversified {
-        key,
+    Made {
+        value: key,
         count: 1,
         sum: after,
     }

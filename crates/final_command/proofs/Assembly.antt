@@ -1,4 +1,5 @@
 -- Each function's record, and the whole of a final command, from what the calls hand back. Assumes nothing.
+use Rattle.std.specs.Prelude.{⊤}
 use mathlib.Core.Path.{◌≡◌, refl, sym, ap, ap₂, ◌∙◌}
 use mathlib.Core.Bool.{Bool, false, cond}
 use mathlib.Core.List.{List, [], ◌∷◌, ◌++◌, append_assoc}
@@ -11,18 +12,15 @@ use Rattle.key_expansion.specs.Schedule.{fifteen}
 use Rattle.aes.specs.Aes.{aes_under, inv_aes_under}
 use Rattle.aes.specs.RoundTrip.{length-aes}
 use Rattle.sha_block.specs.Hash.{sha256}
+use Rattle.work.specs.declared.Made.{Made}
 use Rattle.work.specs.Steps.{Step, comparison, decipherment, encipherment, expansion, hash_block, sum_from, counted, work_sum}
 use Rattle.work.specs.Laws.{sum_from-append, counted-append}
 use Rattle.cbc.specs.Cbc.{encrypted, decrypted, encrypted_whole, decrypted_whole, zeros}
 use Rattle.cbc.specs.Steps.{enciphered, deciphered, made}
 use Rattle.cbc.specs.Laws.{counted-enciphered}
-use Rattle.cbc.specs.declared.Made.{Made}
 use Rattle.steps.specs.Made.{expansion_step, hash_steps}
-use Rattle.steps.specs.declared.Expanded.{Expanded}
-use Rattle.steps.specs.declared.Hashing.{Hashing}
 use Rattle.diversification.specs.Diversification.{diversified_by, diversify_steps}
 use Rattle.diversification.specs.Laws.{counted-diversify}
-use Rattle.diversification.specs.declared.Diversified.{Diversified}
 use Rattle.plaid_types.specs.Keys.{key_length_of, wide, held}
 use Rattle.plaid_types.specs.Cards.{no_mode}
 use Rattle.plaid_types.specs.declared.OpModeId.{OpModeId}
@@ -33,9 +31,7 @@ use Rattle.final_command.specs.Told.{told_final}
 use Rattle.final_command.specs.Parts.{div_steps, derived, deciphered_under, hashing, text_steps, opened_text, reply_steps, sent, buffer_of}
 use Rattle.final_command.specs.Laws.{length-card_keys_hash, final-length, counted-modes}
 use Rattle.final_command.specs.declared.Derived.{Derived}
-use Rattle.final_command.specs.declared.Deciphered.{Deciphered}
 use Rattle.final_command.specs.declared.Opened.{Opened}
-use Rattle.final_command.specs.declared.Found.{Found}
 use Rattle.final_command.specs.declared.Sent.{Sent}
 use Rattle.final_command.specs.declared.Final.{Final}
 use Rattle.final_command.proofs.Front.{front-deciphered, front-enciphered, buffer-front, buffer-decrypted, buffer-encrypted}
@@ -43,25 +39,25 @@ use Rattle.final_command.proofs.Keys.{length-first, held-choice, fa_key-is, dive
 use Rattle.final_command.proofs.Counts.{sum-four, div-expansions, text-comparisons, text-decipherments, text-encipherments, text-expansions, text-hash-blocks, reply-comparisons, reply-decipherments, reply-encipherments, reply-expansions, reply-hash-blocks}
 
 -- what is told of an expansion
-abbrev pub expanded : List ℕ → ℕ → Expanded
-expanded key sum = record { rows = fifteen (length key / 4) key; count = counted expansion (expansion_step key ∷ []); sum = sum_from sum (expansion_step key ∷ []) }
+abbrev pub expanded : List ℕ → ℕ → Made (List (List ℕ))
+expanded key sum = record { value = fifteen (length key / 4) key; count = counted expansion (expansion_step key ∷ []); sum = sum_from sum (expansion_step key ∷ []) }
 
 -- the diversified key
-pub derived-same : (fa div : List ℕ) (sum : ℕ) (e : Expanded) (k : Diversified) → e ≡ expanded fa sum →
-    k ≡ record { key = wide (diversified_by fa div); count = counted encipherment (diversify_steps fa div); sum = sum_from e.sum (diversify_steps fa div) } →
-    ◌≡◌ {A = Derived} (record { key = k.key; encipherments = k.count; expansions = e.count; sum = k.sum }) (derived fa div sum)
+pub derived-same : (fa div : List ℕ) (sum : ℕ) (e : Made (List (List ℕ))) (k : Made (List ℕ)) → e ≡ expanded fa sum →
+    k ≡ record { value = wide (diversified_by fa div); count = counted encipherment (diversify_steps fa div); sum = sum_from e.sum (diversify_steps fa div) } →
+    ◌≡◌ {A = Derived} (record { key = k.value; encipherments = k.count; expansions = e.count; sum = k.sum }) (derived fa div sum)
 derived-same fa div sum e k qe qk =
-    let key : k.key ≡ wide (diversified_by fa div) = ap (λ (r : Diversified). r.key) qk in
-    let n₁ : k.count ≡ counted encipherment (div_steps fa div) = omega (arith, ap (λ (r : Diversified). r.count) qk) in
-    let n₂ : e.count ≡ counted expansion (div_steps fa div) = ap (λ (r : Expanded). r.count) qe ∙ sym (div-expansions fa div) in
-    let s : k.sum ≡ sum_from sum (div_steps fa div) = ap (λ (r : Diversified). r.sum) qk ∙ ap (λ (r : Expanded). sum_from r.sum (diversify_steps fa div)) qe in
+    let key : k.value ≡ wide (diversified_by fa div) = ap (λ (r : Made (List ℕ)). r.value) qk in
+    let n₁ : k.count ≡ counted encipherment (div_steps fa div) = omega (arith, ap (λ (r : Made (List ℕ)). r.count) qk) in
+    let n₂ : e.count ≡ counted expansion (div_steps fa div) = ap (λ (r : Made (List (List ℕ))). r.count) qe ∙ sym (div-expansions fa div) in
+    let s : k.sum ≡ sum_from sum (div_steps fa div) = ap (λ (r : Made (List ℕ)). r.sum) qk ∙ ap (λ (r : Made (List (List ℕ))). sum_from r.sum (diversify_steps fa div)) qe in
     λ i. record { key = key i; encipherments = n₁ i; expansions = n₂ i; sum = s i }
 
 -- the text: z are the zero bytes, t them with the bytes of d that are deciphered, y those bytes afterwards
-pub deciphered-same : (key d z t y : List ℕ) (inv : List ℕ → List ℕ) (n sum : ℕ) (m : Made) → n ≡ 16 * blocks_in d →
+pub deciphered-same : (key d z t y : List ℕ) (inv : List ℕ → List ℕ) (n sum : ℕ) (m : Made ⊤) → n ≡ 16 * blocks_in d →
     t ≡ over z 0 (take n d) → m ≡ made decipherment sum (deciphered key inv (length (take n t) / 16) (take n t)) → y ≡ decrypted_whole inv zeros (take n t) →
-    ◌≡◌ {A = Deciphered} (record { text = y ++ drop n t; count = m.count; sum = m.sum })
-    (record { text = over z 0 (decrypted inv zeros (blocks_in d) d); count = counted decipherment (deciphered key inv (blocks_in d) d); sum = sum_from sum (deciphered key inv (blocks_in d) d) })
+    ◌≡◌ {A = Made (List ℕ)} (record { value = y ++ drop n t; count = m.count; sum = m.sum })
+    (record { value = over z 0 (decrypted inv zeros (blocks_in d) d); count = counted decipherment (deciphered key inv (blocks_in d) d); sum = sum_from sum (deciphered key inv (blocks_in d) d) })
 deciphered-same key d z t y inv n sum m e qt qm qy =
     let h : n ≤ length d = omega arith in
     let p : y ++ drop n t ≡ over z 0 (decrypted inv zeros (blocks_in d) d) = buffer-decrypted d (take n d) n (blocks_in d) e h refl z t y inv zeros qt qy in
@@ -70,17 +66,17 @@ deciphered-same key d z t y inv n sum m e qt qm qy =
     qm
     ∙ ap (λ (a : List ℕ). made decipherment sum (deciphered key inv (length a / 16) a)) f
     ∙ ap (made decipherment sum) (front-deciphered d (take n d) n (blocks_in d) e h refl key inv) in
-    λ i. record { text = p i; count = (q i).count; sum = (q i).sum }
+    λ i. record { value = p i; count = (q i).count; sum = (q i).sum }
 
 -- up to the hash
-pub opened-same : (c : Card) (d fa rnd : List ℕ) (l : ℕ) (k : Derived) (e : Expanded) (t : Deciphered) (h : Hashing) → l ≡ key_length_of c → length fa ≡ 32 → length rnd ≡ 32 →
+pub opened-same : (c : Card) (d fa rnd : List ℕ) (l : ℕ) (k : Derived) (e : Made (List (List ℕ))) (t : Made (List ℕ)) (h : Made (List ℕ)) → l ≡ key_length_of c → length fa ≡ 32 → length rnd ≡ 32 →
     fa ≡ cond c.session.opened c.session.fa_key c.shill_key →
     k ≡ derived (take l fa) c.div_data 0 →
     e ≡ expanded (take l k.key) k.sum →
     t ≡ deciphered_under (take l k.key) d e.sum →
     rnd ≡ cond c.session.opened c.session.rnd1 (replicate 32 0) →
-    h ≡ hashing (take l rnd ++ part t.text 2 (length (take l rnd))) t.sum →
-    ◌≡◌ {A = Opened} (record { text = t.text; digest = h.digest; decipherments = t.count; encipherments = k.encipherments; expansions = k.expansions + e.count; hash_blocks = h.count; sum = h.sum }) (opened_text c d)
+    h ≡ hashing (take l rnd ++ part t.value 2 (length (take l rnd))) t.sum →
+    ◌≡◌ {A = Opened} (record { text = t.value; digest = h.value; decipherments = t.count; encipherments = k.encipherments; expansions = k.expansions + e.count; hash_blocks = h.count; sum = h.sum }) (opened_text c d)
 unfolding text_of hashed_of text_steps
 opened-same c d fa rnd l k e t h ql lf lr qfa qk qe qt qrnd qh =
     let div : List ℕ = c.div_data in
@@ -90,25 +86,25 @@ opened-same c d fa rnd l k e t h ql lf lr qfa qk qe qt qrnd qh =
     let s₁ : k.sum ≡ sum_from 0 (div_steps (fa_key_of c) div) = ap (λ (r : Derived). r.sum) k' in
     let e' : e ≡ expanded (diversified c) (sum_from 0 (div_steps (fa_key_of c) div)) = qe ∙ ap₂ expanded key s₁ in
     let t' : t ≡ deciphered_under (diversified c) d (sum_from (sum_from 0 (div_steps (fa_key_of c) div)) (expansion_step (diversified c) ∷ [])) =
-    qt ∙ ap₂ (λ (x : List ℕ) (s : ℕ). deciphered_under x d s) key (ap (λ (r : Expanded). r.sum) e') in
-    let text : t.text ≡ text_of c d = ap (λ (r : Deciphered). r.text) t' in
+    qt ∙ ap₂ (λ (x : List ℕ) (s : ℕ). deciphered_under x d s) key (ap (λ (r : Made (List (List ℕ))). r.sum) e') in
+    let text : t.value ≡ text_of c d = ap (λ (r : Made (List ℕ)). r.value) t' in
     let n : length (take l rnd) ≡ key_length_of c = length-first c.key_length rnd ql lr ∙ ql in
-    let m : take l rnd ++ part t.text 2 (length (take l rnd)) ≡ hashed_of c d = λ i. rnd1-is c rnd l ql qrnd i ++ part (text i) 2 (n i) in
+    let m : take l rnd ++ part t.value 2 (length (take l rnd)) ≡ hashed_of c d = λ i. rnd1-is c rnd l ql qrnd i ++ part (text i) 2 (n i) in
     let made : List Step = deciphered (diversified c) (inv_aes_under (diversified c)) (blocks_in d) d in
     let h' : h ≡ hashing (hashed_of c d) (sum_from (sum_from (sum_from 0 (div_steps (fa_key_of c) div)) (expansion_step (diversified c) ∷ [])) made) =
-    qh ∙ ap₂ hashing m (ap (λ (r : Deciphered). r.sum) t') in
+    qh ∙ ap₂ hashing m (ap (λ (r : Made (List ℕ)). r.sum) t') in
     let s₄ : h.sum ≡ sum_from 0 (text_steps c d) =
-    ap (λ (r : Hashing). r.sum) h' ∙ sym (sum-four 0 (div_steps (fa_key_of c) div) (expansion_step (diversified c) ∷ []) made (hash_steps (hashed_of c d))) in
-    let digest : h.digest ≡ sha256 (hashed_of c d) = ap (λ (r : Hashing). r.digest) h' in
-    let n₁ : t.count ≡ counted decipherment (text_steps c d) = ap (λ (r : Deciphered). r.count) t' ∙ text-decipherments c d in
+    ap (λ (r : Made (List ℕ)). r.sum) h' ∙ sym (sum-four 0 (div_steps (fa_key_of c) div) (expansion_step (diversified c) ∷ []) made (hash_steps (hashed_of c d))) in
+    let digest : h.value ≡ sha256 (hashed_of c d) = ap (λ (r : Made (List ℕ)). r.value) h' in
+    let n₁ : t.count ≡ counted decipherment (text_steps c d) = ap (λ (r : Made (List ℕ)). r.count) t' ∙ text-decipherments c d in
     let n₂ : k.encipherments ≡ counted encipherment (text_steps c d) = omega (arith, ap (λ (r : Derived). r.encipherments) k', counted-diversify encipherment (fa_key_of c) div, text-encipherments c d) in
     let n₃ : k.expansions + e.count ≡ counted expansion (text_steps c d) =
-    omega (arith, ap (λ (r : Derived). r.expansions) k', div-expansions (fa_key_of c) div, ap (λ (r : Expanded). r.count) e', text-expansions c d) in
-    let n₄ : h.count ≡ counted hash_block (text_steps c d) = ap (λ (r : Hashing). r.count) h' ∙ text-hash-blocks c d in
+    omega (arith, ap (λ (r : Derived). r.expansions) k', div-expansions (fa_key_of c) div, ap (λ (r : Made (List (List ℕ))). r.count) e', text-expansions c d) in
+    let n₄ : h.count ≡ counted hash_block (text_steps c d) = ap (λ (r : Made (List ℕ)). r.count) h' ∙ text-hash-blocks c d in
     λ i. record { text = text i; digest = digest i; decipherments = n₁ i; encipherments = n₂ i; expansions = n₃ i; hash_blocks = n₄ i; sum = s₄ i }
 
 -- behind the verdict: `buffer` is the reply text of so many blocks in its buffer b, and y the front of b enciphered
-module _ (key key' b y o o' : List ℕ) (size size' n sum : ℕ) (buffer : ℕ → List ℕ) (e : Expanded) (m : Made)
+module _ (key key' b y o o' : List ℕ) (size size' n sum : ℕ) (buffer : ℕ → List ℕ) (e : Made (List (List ℕ))) (m : Made ⊤)
     (qk : key ≡ key') (qe : e ≡ expanded key sum)
     (qs : size ≡ size') (qb : b ≡ buffer size) (long : length b ≡ 96) (most : size ≤ 6) (qn : n ≡ 16 * size) where
   within : n ≤ length b
@@ -124,11 +120,11 @@ module _ (key key' b y o o' : List ℕ) (size size' n sum : ℕ) (buffer : ℕ �
       let steps : List Step = enciphered key (aes_under key) zeros size b in
       let q : m ≡ made encipherment (sum_from sum (expansion_step key ∷ [])) steps =
       qm
-      ∙ ap (λ (s : ℕ). made encipherment s (enciphered key (aes_under key) zeros (length (take n b) / 16) (take n b))) (ap (λ (r : Expanded). r.sum) qe)
+      ∙ ap (λ (s : ℕ). made encipherment s (enciphered key (aes_under key) zeros (length (take n b) / 16) (take n b))) (ap (λ (r : Made (List (List ℕ))). r.sum) qe)
       ∙ ap (made encipherment (sum_from sum (expansion_step key ∷ []))) (front-enciphered b (take n b) n size qn within refl key (aes_under key) zeros) in
-      let n₁ : m.count ≡ counted encipherment (reply_steps key size b) = ap (λ (r : Made). r.count) q ∙ counted-enciphered key (aes_under key) size zeros b ∙ sym (reply-encipherments key size b) in
-      let n₂ : e.count ≡ counted expansion (reply_steps key size b) = ap (λ (r : Expanded). r.count) qe ∙ sym (reply-expansions key size b) in
-      let s : m.sum ≡ sum_from sum (reply_steps key size b) = ap (λ (r : Made). r.sum) q ∙ sym (sum_from-append sum (expansion_step key ∷ []) steps) in
+      let n₁ : m.count ≡ counted encipherment (reply_steps key size b) = ap (λ (r : Made ⊤). r.count) q ∙ counted-enciphered key (aes_under key) size zeros b ∙ sym (reply-encipherments key size b) in
+      let n₂ : e.count ≡ counted expansion (reply_steps key size b) = ap (λ (r : Made (List (List ℕ))). r.count) qe ∙ sym (reply-expansions key size b) in
+      let s : m.sum ≡ sum_from sum (reply_steps key size b) = ap (λ (r : Made ⊤). r.sum) q ∙ sym (sum_from-append sum (expansion_step key ∷ []) steps) in
       let a : ◌≡◌ {A = Sent} (record { encipherments = m.count; expansions = e.count; length = n; sum = m.sum }) (sent key size b sum) =
       λ i. record { encipherments = n₁ i; expansions = n₂ i; length = qn i; sum = s i } in
       a ∙ (λ i. sent (qk i) (qs i) (buffer-is i) sum)
@@ -167,16 +163,16 @@ module _ (c : Card) (d fresh : List ℕ) where
   no-modes : (k : ℕ) → eqb comparison k ≡ false → counted k (mode_steps (op_mode (text_of c d)) c.modes) ≡ 0
   no-modes k h = counted-modes k (op_mode (text_of c d)) c.modes ∙ rw h (omega arith)
 
-  module _ (o : Opened) (l : ℕ) (w : OpModeId) (f : Found) (ok : Bool) (mode : ModeSlot) (s : Sent) (qo : o ≡ opened_text c d) (ql : l ≡ key_length_of c) (qw : w ≡ op_mode o.text)
-      (qf : f ≡ record { at = first_mode 0 w c.modes; count = counted comparison (mode_steps w c.modes); sum = sum_from o.sum (mode_steps w c.modes) })
-      (qok : ok ≡ accepting (length (take l o.digest)) c.session.opened (length d) (part o.text 0 (16 * (length d / 16))) (take l o.digest) f.at)
-      (qm : mode ≡ get_or c.modes f.at no_mode) where
+  module _ (o : Opened) (l : ℕ) (w : OpModeId) (f : Made ℕ) (ok : Bool) (mode : ModeSlot) (s : Sent) (qo : o ≡ opened_text c d) (ql : l ≡ key_length_of c) (qw : w ≡ op_mode o.text)
+      (qf : f ≡ record { value = first_mode 0 w c.modes; count = counted comparison (mode_steps w c.modes); sum = sum_from o.sum (mode_steps w c.modes) })
+      (qok : ok ≡ accepting (length (take l o.digest)) c.session.opened (length d) (part o.text 0 (16 * (length d / 16))) (take l o.digest) f.value)
+      (qm : mode ≡ get_or c.modes f.value no_mode) where
     value-is : w ≡ op_mode (text_of c d)
     value-is = qw ∙ ap (λ (r : Opened). op_mode r.text) qo
 
-    at-is : f.at ≡ mode_of c d
+    at-is : f.value ≡ mode_of c d
     unfolding mode_of
-    at-is = ap (λ (r : Found). r.at) qf ∙ ap (λ (x : OpModeId). first_mode 0 x c.modes) value-is
+    at-is = ap (λ (r : Made ℕ). r.value) qf ∙ ap (λ (x : OpModeId). first_mode 0 x c.modes) value-is
 
     hash-is : take l o.digest ≡ card_keys_hash c d
     unfolding card_keys_hash part
@@ -217,9 +213,9 @@ module _ (c : Card) (d fresh : List ℕ) where
         let key : List ℕ = reply_key c d in
         let b : List ℕ = reply_buffer c d fresh in
         let z : s ≡ sent key (size_of c) b f.sum = qs ∙ ap₂ (λ (x y : List ℕ). sent x (size_of c) y f.sum) key-is buffer-same in
-        let fc : f.count ≡ counted comparison (mode_steps (op_mode (text_of c d)) c.modes) = ap (λ (r : Found). r.count) qf ∙ ap (λ (x : OpModeId). counted comparison (mode_steps x c.modes)) value-is in
+        let fc : f.count ≡ counted comparison (mode_steps (op_mode (text_of c d)) c.modes) = ap (λ (r : Made ℕ). r.count) qf ∙ ap (λ (x : OpModeId). counted comparison (mode_steps x c.modes)) value-is in
         let fs : f.sum ≡ sum_from (sum_from 0 (text_steps c d)) (mode_steps (op_mode (text_of c d)) c.modes) =
-        ap (λ (r : Found). r.sum) qf ∙ ap₂ (λ (r : Opened) (x : OpModeId). sum_from r.sum (mode_steps x c.modes)) qo value-is in
+        ap (λ (r : Made ℕ). r.sum) qf ∙ ap₂ (λ (r : Opened) (x : OpModeId). sum_from r.sum (mode_steps x c.modes)) qo value-is in
         let n₁ : f.count ≡ counted comparison (final_reply c d fresh).steps = omega (arith, fc, count-are comparison, text-comparisons c d, reply-comparisons key (size_of c) b) in
         let n₂ : o.decipherments ≡ counted decipherment (final_reply c d fresh).steps =
         omega (arith, ap (λ (r : Opened). r.decipherments) qo, count-are decipherment, no-modes decipherment refl, reply-decipherments key (size_of c) b) in

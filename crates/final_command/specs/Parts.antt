@@ -5,17 +5,16 @@ use Rattle.octets.specs.Bytes.{same}
 use Rattle.aes.specs.Aes.{aes_under, inv_aes_under}
 use Rattle.sha_block.specs.Hash.{sha256}
 use Rattle.padding.specs.Method2.{end, rightly}
+use Rattle.work.specs.declared.Made.{Made}
 use Rattle.work.specs.Steps.{Step, decipherment, encipherment, expansion, hash_block, counted, sum_from}
 use Rattle.cbc.specs.Steps.{enciphered, deciphered}
 use Rattle.cbc.specs.Cbc.{decrypted, zeros}
 use Rattle.steps.specs.Made.{expansion_step, hash_steps}
-use Rattle.steps.specs.declared.Hashing.{Hashing}
 use Rattle.diversification.specs.Diversification.{diversified_by, diversify_steps}
 use Rattle.plaid_types.specs.Keys.{wide}
 use Rattle.plaid_types.specs.declared.Card.{Card}
 use Rattle.final_command.specs.Final.{fa_key_of, diversified, blocks_in, text_of, hashed_of}
 use Rattle.final_command.specs.declared.Derived.{Derived}
-use Rattle.final_command.specs.declared.Deciphered.{Deciphered}
 use Rattle.final_command.specs.declared.Opened.{Opened}
 use Rattle.final_command.specs.declared.Sent.{Sent}
 
@@ -34,17 +33,17 @@ derived fa div sum =
     }
 
 -- what is told of deciphering the whole blocks of d
-abbrev pub deciphered_under : List ℕ → List ℕ → ℕ → Deciphered
+abbrev pub deciphered_under : List ℕ → List ℕ → ℕ → Made (List ℕ)
 deciphered_under key d sum =
     record {
-      text = over (replicate 240 0) 0 (decrypted (inv_aes_under key) zeros (blocks_in d) d);
+      value = over (replicate 240 0) 0 (decrypted (inv_aes_under key) zeros (blocks_in d) d);
       count = counted decipherment (deciphered key (inv_aes_under key) (blocks_in d) d);
       sum = sum_from sum (deciphered key (inv_aes_under key) (blocks_in d) d);
     }
 
 -- and of hashing m
-abbrev pub hashing : List ℕ → ℕ → Hashing
-hashing m sum = record { digest = sha256 m; count = counted hash_block (hash_steps m); sum = sum_from sum (hash_steps m) }
+abbrev pub hashing : List ℕ → ℕ → Made (List ℕ)
+hashing m sum = record { value = sha256 m; count = counted hash_block (hash_steps m); sum = sum_from sum (hash_steps m) }
 
 -- expand FAKey; encipher DivData; expand the diversified key; decipher n blocks; hash
 unfoldable pub text_steps : Card → List ℕ → List Step

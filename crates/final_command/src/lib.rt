@@ -17,6 +17,7 @@ ghost use Rattle.final_command.specs.Parts.{derived, deciphered_under, hashing, 
 ghost use Rattle.final_command.specs.Told.{told_final};
 
 use plaid_types::{Answer, Card, ModeSlot, OpModeId, Value};
+use work::Made;
 
 // A function, so that both values are read before one is taken.
 fn choose(t: bool, a: [u8; Value::MOST], b: [u8; Value::MOST]) -> [u8; Value::MOST]
@@ -47,11 +48,11 @@ fn diversify(table: &[u8; 256], fa: &[u8], div: [u8; 16], sum: u32) -> Derived
     ensures { result ≡ derived fa.now div sum }
 {
     let e = steps::expand(table, fa, sum);
-    let rows = steps::round_keys(e);
+    let rows = e.value;
     let n = fa.len() / 4 + 7;
     let k = diversification::diversify(table, fa, &rows[..n], div, e.sum);
     // An array field goes into a literal by a variable: the check does not take it straight.
-    let key = k.key;
+    let key = k.value;
     Derived {
         key: key,
         encipherments: k.count,
@@ -60,35 +61,24 @@ fn diversify(table: &[u8; 256], fa: &[u8], div: [u8; 16], sum: u32) -> Derived
     }
 }
 
-#[derive(Clone, Copy)]
-struct Deciphered {
-    text: [u8; Deciphered::TEXT],
-    count: usize,
-    sum: u32,
-}
-
-impl Deciphered {
-    const TEXT: usize = 240;
-}
-
 // The whole blocks of d, deciphered into bytes that start as zero.
-fn decipher(key: &[u8], rows: &[[u8; 16]], d: &[u8], sum: u32) -> Deciphered
+fn decipher(key: &[u8], rows: &[[u8; 16]], d: &[u8], sum: u32) -> Made<[u8; Opened::TEXT]>
     requires { (is_key_length (length key.now) ≡ true) × (rows.now ≡ fifteen (length key.now / 4) key.now) × (length d.now < 256) }
     ensures { result ≡ deciphered_under key.now d.now sum }
 {
-    let mut text = [0u8; Deciphered::TEXT];
+    let mut text = [0u8; Opened::TEXT];
     let n = 16 * (d.len() / 16);
     octets::copy_at(&mut text, 0, &d[..n]);
     let m = cbc::decipher_under(key, rows, [0u8; 16], &mut text[..n], sum);
-    Deciphered {
-        text: text,
+    Made {
+        value: text,
         count: m.count,
         sum: m.sum,
     }
 }
 
 // RND1 and RND2, which follows the text's OpModeID and is as long.
-fn hashed(rnd1: &[u8], text: &[u8], sum: u32) -> steps::Hashing
+fn hashed(rnd1: &[u8], text: &[u8], sum: u32) -> Made<[u8; 32]>
     requires { (length rnd1.now ≤ 32) × (2 + length rnd1.now ≤ length text.now) }
     ensures { result ≡ hashing (rnd1.now ++ part text.now 2 (length rnd1.now)) sum }
 {
@@ -104,13 +94,17 @@ fn hashed(rnd1: &[u8], text: &[u8], sum: u32) -> steps::Hashing
 // KeysHash is the first L bytes of the digest.
 #[derive(Clone, Copy)]
 struct Opened {
-    text: [u8; Deciphered::TEXT],
+    text: [u8; Opened::TEXT],
     digest: [u8; 32],
     decipherments: usize,
     encipherments: usize,
     expansions: usize,
     hash_blocks: usize,
     sum: u32,
+}
+
+impl Opened {
+    const TEXT: usize = 240;
 }
 
 // The steps up to the hash.
@@ -126,13 +120,13 @@ fn open_text(card: Card, d: &[u8]) -> Opened
     let long = k.key;
     let key = &long[..l];
     let e = steps::expand(&table, key, k.sum);
-    let rows = steps::round_keys(e);
+    let rows = e.value;
     let t = decipher(key, &rows, d, e.sum);
-    let text = t.text;
+    let text = t.value;
     let rnd1 = choose(card.session.opened, card.session.rnd1, [0u8; Value::MOST]);
     let h = hashed(&rnd1[..l], &text, t.sum);
     // By a variable, as in `diversify`.
-    let digest = h.digest;
+    let digest = h.value;
     Opened {
         text: text,
         digest: digest,
@@ -144,15 +138,9 @@ fn open_text(card: Card, d: &[u8]) -> Opened
     }
 }
 
-#[derive(Clone, Copy)]
-struct Found {
-    at: usize,
-    count: usize,
-    sum: u32,
-}
-
-fn compare_modes(modes: [ModeSlot; Card::MODES], v: OpModeId, sum: u32) -> Found
-    ensures { result ≡ record { at = first_mode 0 v modes; count = counted comparison (mode_steps v modes); sum = sum_from sum (mode_steps v modes) } }
+// Where the first match is, or 16 for none.
+fn compare_modes(modes: [ModeSlot; Card::MODES], v: OpModeId, sum: u32) -> Made<usize>
+    ensures { result ≡ record { value = first_mode 0 v modes; count = counted comparison (mode_steps v modes); sum = sum_from sum (mode_steps v modes) } }
 {
     let mut at = Card::MODES;
     let mut s = sum;
@@ -161,16 +149,16 @@ fn compare_modes(modes: [ModeSlot; Card::MODES], v: OpModeId, sum: u32) -> Found
         let c = steps::compare_modes(v, k.held, k.id, s);
         s = c.sum;
         count += c.count;
-        at = steps::keep(Card::MODES, at, i, c.hit);
+        at = steps::keep(Card::MODES, at, i, c.value);
     }
-    Found {
-        at: at,
+    Made {
+        value: at,
         count: count,
         sum: s,
     }
 }
 
-fn op_mode(text: [u8; Deciphered::TEXT]) -> OpModeId
+fn op_mode(text: [u8; Opened::TEXT]) -> OpModeId
     ensures { result ≡ op_mode text }
 {
     OpModeId(octets::word(text[0], text[1]))
@@ -196,7 +184,7 @@ fn sealed(s: &[u8], hash: &[u8], held: bool) -> bool
     }
 }
 
-fn accepts(opened: bool, lc: usize, text: [u8; Deciphered::TEXT], hash: &[u8], mode: usize) -> bool
+fn accepts(opened: bool, lc: usize, text: [u8; Opened::TEXT], hash: &[u8], mode: usize) -> bool
     requires { (lc < 256) × (length hash.now ≤ 32) }
     ensures { result ≡ accepting (length hash.now) opened lc (part text 0 (16 * (lc / 16))) hash.now mode }
 {
@@ -297,7 +285,7 @@ fn reply(
     let key = &chosen[..l];
     let table = sbox::byte_table();
     let e = steps::expand(&table, key, sum);
-    let rows = steps::round_keys(e);
+    let rows = e.value;
     let size = card.reply_size.min(Card::REPLY_MOST);
     let mut b = reply_text(accepted, card.area, mode, card.div_data, fresh, size);
     let n = 16 * size;
@@ -334,8 +322,8 @@ pub fn run(card: Card, d: &[u8], fresh: &[u8], out: &mut [u8]) -> Final
     let text = o.text;
     let digest = o.digest;
     let f = compare_modes(card.modes, op_mode(text), o.sum);
-    let accepted = accepts(card.session.opened, d.len(), text, &digest[..l], f.at);
-    let mode = mode_at(card.modes, f.at);
+    let accepted = accepts(card.session.opened, d.len(), text, &digest[..l], f.value);
+    let mode = mode_at(card.modes, f.value);
     let s = reply(card, accepted, digest, mode, f.sum, fresh, out);
     Final {
         comparisons: f.count,

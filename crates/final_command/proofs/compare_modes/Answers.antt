@@ -22,7 +22,7 @@ loop-i-preserved c =
     let h : l.i < length a.modes = omega arith in (
       omega (arith, ap (λ r. r.count) e, l.invariant.0),
       ap (λ r. sum_from r.sum (mode_steps a.v (drop (l.i + 1) a.modes))) e ∙ sym (sum-turn a.v a.modes l.i l.s h) ∙ l.invariant.1,
-      rw (c.keep-at.ensures, kept_next _ _ _ _ _ k, ap (λ r. r.hit) e) (rw (first-turn a.v a.modes l.i h) at l.invariant.2),
+      rw (c.keep-at.ensures, kept_next _ _ _ _ _ k, ap (λ r. r.value) e) (rw (first-turn a.v a.modes l.i h) at l.invariant.2),
     )
 
 pub returns : goal.returns

@@ -11,17 +11,17 @@ use Rattle.final_command.proofs.diversify.Goals as goal
 
 pub slice_bounds-rows-end : goal.slice_bounds-rows-end
 slice_bounds-rows-end c =
-    let long : length c.round_keys-rows.result ≡ 15 = search rules in
+    let long : length c.expand-e.result.value ≡ 15 = search (rules, c.expand-e.type_inv) in
     omega (arith, length_most _ c.requires.1)
 
 pub slice_bounds-diversify-end : goal.slice_bounds-diversify-end
 slice_bounds-diversify-end c =
-    let long : length c.round_keys-rows.result ≡ 15 = search rules in
-    sym (length-take-le _ c.round_keys-rows.result (omega (arith, length_most _ c.requires.1)))
+    let long : length c.expand-e.result.value ≡ 15 = search (rules, c.expand-e.type_inv) in
+    sym (length-take-le _ c.expand-e.result.value (omega (arith, length_most _ c.requires.1)))
 
 pub diversify-k-requires : goal.diversify-k-requires
 diversify-k-requires c =
-    (c.requires.0, c.requires.1, lent c.args.fa.now (c.round_keys-rows.ensures ∙ ap (λ r. r.rows) c.expand-e.ensures))
+    (c.requires.0, c.requires.1, lent c.args.fa.now (ap (λ r. r.value) c.expand-e.ensures))
 
 pub returns : goal.returns
 returns c =

@@ -42,7 +42,7 @@ expand-e-requires c =
 pub decipher-t-requires : goal.decipher-t-requires
 decipher-t-requires c =
     let long : length c.diversify-k.result.key ≡ 32 = search (rules, c.diversify-k.type_inv) in
-    (first-lawful c.args.card.key_length c.diversify-k.result.key c.lawful-l.ensures long, c.round_keys-rows.ensures ∙ ap (λ r. r.rows) c.expand-e.ensures, c.requires)
+    (first-lawful c.args.card.key_length c.diversify-k.result.key c.lawful-l.ensures long, ap (λ r. r.value) c.expand-e.ensures, c.requires)
 
 pub slice_bounds-rnd1-end : goal.slice_bounds-rnd1-end
 slice_bounds-rnd1-end c =
@@ -59,7 +59,7 @@ hashed-h-requires c =
     let t = c.decipher-t in
     let n = c.args.card.key_length in
     let long : length c.choose-rnd1.result ≡ 32 = search (rules, c.choose-rnd1.type_inv) in
-    let text : length t.result.text ≡ 240 = search (rules, t.type_inv) in
+    let text : length t.result.value ≡ 240 = search (rules, t.type_inv) in
     let e = length-first n c.choose-rnd1.result c.lawful-l.ensures long in
     (omega (arith, e, c.lawful-l.ensures, lawful-most n), omega (arith, e, c.lawful-l.ensures, lawful-most n))
 

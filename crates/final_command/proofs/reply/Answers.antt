@@ -42,7 +42,7 @@ slice_bounds-encipher_under-end-2 c =
 pub encipher_under-m-requires : goal.encipher_under-m-requires
 encipher_under-m-requires c =
     let long : length c.choose-chosen.result ≡ 32 = search (rules, c.choose-chosen.type_inv) in
-    (first-lawful c.args.card.key_length c.choose-chosen.result c.lawful-l.ensures long, c.round_keys-rows.ensures ∙ ap (λ r. r.rows) c.expand-e.ensures)
+    (first-lawful c.args.card.key_length c.choose-chosen.result c.lawful-l.ensures long, ap (λ r. r.value) c.expand-e.ensures)
 
 pub slice_bounds-b-end-2 : goal.slice_bounds-b-end-2
 slice_bounds-b-end-2 c =
