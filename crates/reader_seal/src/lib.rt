@@ -94,60 +94,56 @@ fn diversified(table: &[u8; 256], fa_key: &[u8], div: [u8; 16]) -> [u8; 32]
     d.key
 }
 
-// STR2 from the start of a buffer.
-fn write_str2(mode: OpModeId, rnd2: &[u8], payload: &[u8], hash: &[u8], b: &mut [u8])
-    requires { 2 + length rnd2.now + length payload.now + length hash.now ≤ length b.old }
-    ensures { b.new ≡ over b.old 0 (str2 mode rnd2.now payload.now hash.now) }
-{
-    let number = mode.0.to_be_bytes();
-    octets::copy_at(b, 0, &number);
-    octets::copy_at(b, 2, rnd2);
-    let at = 2 + rnd2.len();
-    octets::copy_at(b, at, payload);
-    octets::copy_at(b, at + payload.len(), hash);
+// What the command's data are made of, with the key for them: RND2 and KeysHash are as long as that key.
+#[derive(Clone, Copy)]
+struct Contents<'a> {
+    key: &'a [u8],
+    mode: OpModeId,
+    rnd2: &'a [u8],
+    payload: &'a [u8],
+    hash: &'a [u8],
+    ghost key_length: { is_key_length (length key.now) ≡ true },
+    ghost rnd2_length: { length rnd2.now ≡ length key.now },
+    ghost hash_length: { length hash.now ≡ length key.now },
 }
 
-// The command's data, in a buffer of its length.
-fn write_data(
-    table: &[u8; 256],
-    l: usize,
-    key: &[u8],
-    mode: OpModeId,
-    rnd2: &[u8],
-    payload: &[u8],
-    hash: &[u8],
-    b: &mut [u8],
-)
-    requires { (table.now ≡ sbox_table) × (is_key_length l ≡ true) × (length key.now ≡ l) × (length rnd2.now ≡ l) × (length hash.now ≡ l) × (length b.old ≡ lc_of l (length payload.now)) }
-    ensures { b.new ≡ sealed_data l key.now mode rnd2.now payload.now hash.now }
-{
-    let rows = key_expansion::expand(table, key);
-    write_str2(mode, rnd2, payload, hash, b);
-    padding::pad(b, 2 + 2 * l + payload.len());
-    cbc::encipher_under(key, &rows, [0u8; 16], b, 0);
-}
+impl<'a> Contents<'a> {
+    // STR2 from the start of a buffer.
+    fn write_str2(self, b: &mut [u8])
+        requires { 2 + length self.rnd2.now + length self.payload.now + length self.hash.now ≤ length b.old }
+        ensures { b.new ≡ over b.old 0 (str2 self.entry.mode self.entry.rnd2.now self.entry.payload.now self.entry.hash.now) }
+    {
+        let number = self.mode.0.to_be_bytes();
+        octets::copy_at(b, 0, &number);
+        octets::copy_at(b, 2, self.rnd2);
+        let at = 2 + self.rnd2.len();
+        octets::copy_at(b, at, self.payload);
+        octets::copy_at(b, at + self.payload.len(), self.hash);
+    }
 
-// The command from the start of the output: the data is made where it stands.
-fn write_command(
-    table: &[u8; 256],
-    l: usize,
-    key: &[u8],
-    mode: OpModeId,
-    rnd2: &[u8],
-    payload: &[u8],
-    hash: &[u8],
-    lc: usize,
-    out: &mut [u8],
-)
-    requires { (table.now ≡ sbox_table) × (is_key_length l ≡ true) × (length key.now ≡ l) × (length rnd2.now ≡ l) × (length hash.now ≡ l) × (length payload.now ≤ payload_most l) × (lc ≡ lc_of l (length payload.now)) × (lc + 6 ≤ length out.old) }
-    ensures { out.new ≡ over out.old 0 (final_command lc (sealed_data l key.now mode rnd2.now payload.now hash.now)) }
-{
-    let head = [0u8, 0x86, 0, 0, lc as u8];
-    octets::copy_at(out, 0, &head);
-    let end = 5 + lc;
-    write_data(table, l, key, mode, rnd2, payload, hash, &mut out[5..end]);
-    let le = [0u8];
-    octets::copy_at(out, end, &le);
+    // The command's data, in a buffer of its length.
+    fn write_data(self, table: &[u8; 256], b: &mut [u8])
+        requires { (table.now ≡ sbox_table) × (length b.old ≡ lc_of (length self.key.now) (length self.payload.now)) }
+        ensures { b.new ≡ sealed_data (length self.entry.key.now) self.entry.key.now self.entry.mode self.entry.rnd2.now self.entry.payload.now self.entry.hash.now }
+    {
+        let rows = key_expansion::expand(table, self.key);
+        self.write_str2(b);
+        padding::pad(b, 2 + 2 * self.key.len() + self.payload.len());
+        cbc::encipher_under(self.key, &rows, [0u8; 16], b, 0);
+    }
+
+    // The command from the start of the output: the data is made where it stands.
+    fn write_command(self, table: &[u8; 256], lc: usize, out: &mut [u8])
+        requires { (table.now ≡ sbox_table) × (length self.payload.now ≤ payload_most (length self.key.now)) × (lc ≡ lc_of (length self.key.now) (length self.payload.now)) × (lc + 6 ≤ length out.old) }
+        ensures { out.new ≡ over out.old 0 (final_command lc (sealed_data (length self.entry.key.now) self.entry.key.now self.entry.mode self.entry.rnd2.now self.entry.payload.now self.entry.hash.now)) }
+    {
+        let head = [0u8, 0x86, 0, 0, lc as u8];
+        octets::copy_at(out, 0, &head);
+        let end = 5 + lc;
+        self.write_data(table, &mut out[5..end]);
+        let le = [0u8];
+        octets::copy_at(out, end, &le);
+    }
 }
 
 pub fn seal(
@@ -165,23 +161,28 @@ pub fn seal(
 {
     match fault(l, fa_key, rnd1, rnd2, payload.len(), out.len()) {
         Ok(()) => {
-            let fa = fa_key.bytes;
-            let first = rnd1.bytes;
-            let second = rnd2.bytes;
-            let key = &fa[..l];
-            let r1 = &first[..l];
-            let r2 = &second[..l];
+            let key = &fa_key.bytes[..l];
+            let r1 = &rnd1.bytes[..l];
+            let r2 = &rnd2.bytes[..l];
             let digest = hashed(r1, r2);
             let hash = &digest[..l];
             let table = sbox::byte_table();
             let derived = diversified(&table, key, div_data);
             let under = &derived[..l];
             let lc = lc_of(l, payload.len());
-            write_command(&table, l, under, mode, r2, payload, hash, lc, out);
+            let keys_hash = Value::of(hash);
+            let contents = Contents {
+                key: under,
+                mode,
+                rnd2: r2,
+                payload,
+                hash,
+            };
+            contents.write_command(&table, lc, out);
             Sealed {
                 number: 0,
                 length: lc + 6,
-                keys_hash: Value::of(hash),
+                keys_hash,
             }
         }
         Err(r) => Sealed {

@@ -14,8 +14,8 @@ returns-in-Err c =
     let all = not-sealed a.l a.fa_key a.div_data a.rnd1 a.rnd2 a.mode a.payload.now a.out.now c.in-Err.r c.in-Err.ensures c.number.ensures c.none.ensures in
     record { told = all.0; bytes = all.1 }
 
-pub slice_bounds-fa-end : goal.slice_bounds-fa-end
-slice_bounds-fa-end c =
+pub shared_ref_as_front-key : goal.shared_ref_as_front-key
+shared_ref_as_front-key c =
     let e : length c.args.fa_key.bytes ≡ 32 = search rules in
     omega (arith, e, length_most _ (seen c.in-Ok.ensures).length-one)
 
@@ -24,8 +24,8 @@ slice_bounds-key-end c =
     let e : length c.args.fa_key.bytes ≡ 32 = search rules in
     sym (length-take-le _ _ (omega (arith, e, length_most _ (seen c.in-Ok.ensures).length-one)))
 
-pub slice_bounds-first-end : goal.slice_bounds-first-end
-slice_bounds-first-end c =
+pub shared_ref_as_front-r1 : goal.shared_ref_as_front-r1
+shared_ref_as_front-r1 c =
     let e : length c.args.rnd1.bytes ≡ 32 = search rules in
     omega (arith, e, length_most _ (seen c.in-Ok.ensures).length-one)
 
@@ -34,8 +34,8 @@ slice_bounds-r1-end c =
     let e : length c.args.rnd1.bytes ≡ 32 = search rules in
     sym (length-take-le _ _ (omega (arith, e, length_most _ (seen c.in-Ok.ensures).length-one)))
 
-pub slice_bounds-second-end : goal.slice_bounds-second-end
-slice_bounds-second-end c =
+pub shared_ref_as_front-r2 : goal.shared_ref_as_front-r2
+shared_ref_as_front-r2 c =
     let e : length c.args.rnd2.bytes ≡ 32 = search rules in
     omega (arith, e, length_most _ (seen c.in-Ok.ensures).length-one)
 
@@ -68,26 +68,39 @@ slice_bounds-under-end c = sym (length-take-le _ _ (search (rules, length_most _
 pub lc_of-lc-requires : goal.lc_of-lc-requires
 lc_of-lc-requires c = let s = seen c.in-Ok.ensures in (length_most _ s.length-one, s.payload-most)
 
-pub write_command-requires : goal.write_command-requires
-write_command-requires c =
+pub invariant_of-contents : goal.invariant_of-contents
+invariant_of-contents c =
     let e : length c.args.rnd2.bytes ≡ 32 = search rules in
     let s = seen c.in-Ok.ensures in
     let h = length_most _ s.length-one in
-    let lc = c.lc_of-lc.ensures in
-    (c.byte_table-table.ensures, s.length-one, length-take-le _ _ (search (rules, h)), length-take-le _ _ (omega (arith, e, h)), length-take-le c.args.l c.hashed-digest.result (search (rules, h)), s.payload-most, lc, omega (arith, lc, s.room-enough))
+    let k = length-take-le c.args.l c.diversified-derived.result (search (rules, h)) in
+    record {
+      key_length = ap is_key_length k ∙ s.length-one;
+      rnd2_length = length-take-le _ _ (omega (arith, e, h)) ∙ sym k;
+      hash_length = length-take-le c.args.l c.hashed-digest.result (search (rules, h)) ∙ sym k;
+    }
 
-pub of-requires : goal.of-requires
-of-requires c = taken-most c.args.l c.hashed-digest.result (length_most _ (seen c.in-Ok.ensures).length-one)
+pub write_command-requires : goal.write_command-requires
+write_command-requires c =
+    let s = seen c.in-Ok.ensures in
+    let h = length_most _ s.length-one in
+    let k = length-take-le c.args.l c.diversified-derived.result (search (rules, h)) in
+    let lc = c.lc_of-lc.ensures in
+    (c.byte_table-table.ensures, rw k s.payload-most, rw k lc, omega (arith, lc, s.room-enough))
+
+pub of-keys_hash-requires : goal.of-keys_hash-requires
+of-keys_hash-requires c = taken-most c.args.l c.hashed-digest.result (length_most _ (seen c.in-Ok.ensures).length-one)
 
 pub returns-in-Ok : goal.returns-in-Ok
 returns-in-Ok c =
     let a = c.args in
+    let k = length-take-le a.l c.diversified-derived.result (search (rules, length_most _ (seen c.in-Ok.ensures).length-one)) in
     let all = command-made a.l a.fa_key a.div_data a.rnd1 a.rnd2 a.mode a.payload.now a.out.now
     c.in-Ok.ensures
     (search rules)
     c.hashed-digest.ensures
     c.diversified-derived.ensures
     c.lc_of-lc.ensures
-    c.write_command.ensures
-    c.of.ensures in
+    (rw k at c.write_command.ensures)
+    c.of-keys_hash.ensures in
     record { told = all.0; bytes = all.1 }

@@ -1,4 +1,4 @@
--- `reader_seal::write_command` meets its contract: its bytes are written one behind the other (`command-writes`). Assumes nothing.
+-- `reader_seal::Contents::write_command` meets its contract: its bytes are written one after the other (`command-writes`). Assumes nothing.
 use mathlib.Core.Path.{◌≡◌, sym, ap, ◌∙◌}
 use mathlib.Core.List.{List}
 use Prim.Native.Nat.{ℕ, ◌+◌, ◌-◌}
@@ -9,20 +9,18 @@ use Rattle.reader_seal.specs.Seal.{sealed_data}
 use Rattle.reader_seal.specs.Laws.{length-sealed_data, lc-most}
 use Rattle.reader_seal.proofs.Writes.{put-over, command-writes}
 use Rattle.std.proofs.Common.{rules}
-use Rattle.reader_seal.proofs.write_command.Goals as goal
+use Rattle.reader_seal.proofs.Contents.write_command.Goals as goal
 
 pub overflow_cast-head : goal.overflow_cast-head
-overflow_cast-head c = let p = c.requires in search (rules, lc-most _ _ p.1 p.5)
-
-pub write_data-requires : goal.write_data-requires
-write_data-requires c =
-    (c.requires.0, c.requires.1, search rules, search rules, search rules, search rules)
+overflow_cast-head c = search (rules, lc-most _ _ c.args.self.key_length c.requires.1)
 
 pub returns : goal.returns
 returns c =
     let a = c.args in
-    let d : List ℕ = sealed_data a.l a.key.now a.mode a.rnd2.now a.payload.now a.hash.now in
-    let long : length d ≡ a.lc = length-sealed_data a.l a.key.now a.mode a.rnd2.now a.payload.now a.hash.now ∙ sym c.requires.6 in
+    let s = a.self in
+    let l : ℕ = length s.key.now in
+    let d : List ℕ = sealed_data l s.key.now s.mode s.rnd2.now s.payload.now s.hash.now in
+    let long : length d ≡ a.lc = length-sealed_data l s.key.now s.mode s.rnd2.now s.payload.now s.hash.now ∙ sym c.requires.2 in
     let m : a.lc ≡ 5 + a.lc - 5 = omega arith in
     let w = c.write_data.ensures in
     command-writes
