@@ -6,8 +6,8 @@ use Rattle.std.proofs.lemmas.Bool.{not-false}
 use Rattle.octets.specs.Lists.{over}
 use Rattle.octets.specs.Writes.{over-front}
 use Rattle.refusals.specs.Numbers.{number_of}
+use Rattle.refusals.specs.Laws.{number-some}
 use Rattle.refusals.specs.declared.Refusal.{Refusal}
-use Rattle.refusals.specs.declared.Refusal.TheVariants.{KeySetCount, KeySetRepeated, ShillHandle, ModeCount, ModeRepeated, Record, FreshCount, PadByte, Output, ListCount, ListRepeated, ListOutput, Blocks, NoneOpens, Payload, SealOutput, Response, WorkBuffer, Authentication, KeyLength, ValueLength, ConversionLength, Parity, BadCharacter, Interface}
 use Rattle.conversion.specs.Conversion.{misfit, made, converted, output_after, each}
 use Rattle.conversion.specs.Told.{told, left, Gives}
 use Rattle.conversion.specs.declared.Converted.{Converted}
@@ -24,37 +24,9 @@ pub answer-made : (result out : List ℕ) {number : ℕ} {r : Converted} {out' :
 unfolding converted output_after
 answer-made result out e q w = (q ∙ simp e, w ∙ simp e)
 
--- no refusal has the number 0
-pub no_zero : (r : Refusal) → number_of r ≡ 0 → ⊥
-no_zero KeySetCount e = omega arith
-no_zero KeySetRepeated e = omega arith
-no_zero ShillHandle e = omega arith
-no_zero ModeCount e = omega arith
-no_zero ModeRepeated e = omega arith
-no_zero Record e = omega arith
-no_zero FreshCount e = omega arith
-no_zero PadByte e = omega arith
-no_zero Output e = omega arith
-no_zero ListCount e = omega arith
-no_zero ListRepeated e = omega arith
-no_zero ListOutput e = omega arith
-no_zero Blocks e = omega arith
-no_zero NoneOpens e = omega arith
-no_zero Payload e = omega arith
-no_zero SealOutput e = omega arith
-no_zero Response e = omega arith
-no_zero WorkBuffer e = omega arith
-no_zero Authentication e = omega arith
-no_zero KeyLength e = omega arith
-no_zero ValueLength e = omega arith
-no_zero ConversionLength e = omega arith
-no_zero Parity e = omega arith
-no_zero BadCharacter e = omega arith
-no_zero Interface e = omega arith
-
 answer-refused : (n : ℕ) (result out : List ℕ) (f : Refusal) {r : Converted} {out' : List ℕ} → n ≡ number_of f → r ≡ record { number = number_of f; length = 0 } → out' ≡ out → Answers n result out r out'
 unfolding converted output_after
-answer-refused n result out f e q w = let z = ne_eqb n 0 (λ k. no_zero f (sym e ∙ k)) in (q ∙ simp z (simp e), w ∙ simp z)
+answer-refused n result out f e q w = let z = ne_eqb n 0 (λ k. omega (arith, number-some f)) in (q ∙ simp z (simp e), w ∙ simp z)
 
 -- a conversion that gives its result or its refusal answers by it
 pub answer-given : (n : ℕ) (result out : List ℕ) (g : Result (List ℕ) Refusal) {r : Converted} {out' : List ℕ} → Gives n result g → r ≡ told g → out' ≡ left g out → Answers n result out r out'
@@ -73,7 +45,7 @@ over-all d s h = over-front d s ∙ ap (λ (l : List ℕ). s ++ l) (drop_of_leng
 -- a refusal by the first of the tests
 pub first-refused : (m : Bool) (k n : ℕ) (r : Refusal) → number_of r ≡ cond m k 0 → cond m k n ≡ number_of r
 first-refused true k n r e = sym e
-first-refused false k n r e = absurd (no_zero r e)
+first-refused false k n r e = absurd (omega (arith, number-some r))
 
 -- the number that is returned is the conversion's
 number_by : (number : ℕ) (result : List ℕ) (t : Bool) → eqb number 0 ≡ t → (converted number result).number ≡ number

@@ -10,10 +10,9 @@ use lib.ListN.{length, take, replicate, length-replicate}
 use Rattle.octets.specs.Lists.{over}
 use Rattle.octets.specs.Writes.{take-over}
 use Rattle.key_expansion.specs.KeyLength.{is_key_length}
-use Rattle.std.proofs.Common.{lit<}
 use Rattle.refusals.specs.declared.Refusal.{Refusal}
-use Rattle.refusals.specs.declared.Refusal.TheVariants.{KeySetCount, KeySetRepeated, ShillHandle, ModeCount, ModeRepeated, Record, FreshCount, PadByte, Output, ListCount, ListRepeated, ListOutput, Blocks, NoneOpens, Payload, SealOutput, Response, WorkBuffer, Authentication, KeyLength, ValueLength, ConversionLength, Parity, BadCharacter, Interface}
 use Rattle.refusals.specs.Numbers.{number_of as refusal_number}
+use Rattle.refusals.specs.Laws.{number-some}
 use Rattle.plaid_types.specs.Keys.{bytes_of, of_length}
 use Rattle.plaid_types.specs.KeyLaws.{value-bytes}
 use Rattle.plaid_types.specs.declared.Value.{Value}
@@ -49,40 +48,6 @@ module _ (l : ℕ) (hash : Value) (n room : ℕ) where
         pub no-fault : n ≤ room → 0 ≡ Fault
         unfolding accept_number
         no-fault h = simp (one, eq-eqb hash.length l right, k, le-ltb room n h)
-
--- no refusal has the number 0
-pub some-number : (r : Refusal) → refusal_number r ≡ 0 → ⊥
-some-number r e = omega (arith, some-of r)
-  where
-    some-of : (x : Refusal) → 0 < refusal_number x
-    some-of x =
-        elim x as (λ (y : Refusal). 0 < refusal_number y) [
-          | KeySetCount ↦ lit< tt
-          | KeySetRepeated ↦ lit< tt
-          | ShillHandle ↦ lit< tt
-          | ModeCount ↦ lit< tt
-          | ModeRepeated ↦ lit< tt
-          | Record ↦ lit< tt
-          | FreshCount ↦ lit< tt
-          | PadByte ↦ lit< tt
-          | Output ↦ lit< tt
-          | ListCount ↦ lit< tt
-          | ListRepeated ↦ lit< tt
-          | ListOutput ↦ lit< tt
-          | Blocks ↦ lit< tt
-          | NoneOpens ↦ lit< tt
-          | Payload ↦ lit< tt
-          | SealOutput ↦ lit< tt
-          | Response ↦ lit< tt
-          | WorkBuffer ↦ lit< tt
-          | Authentication ↦ lit< tt
-          | KeyLength ↦ lit< tt
-          | ValueLength ↦ lit< tt
-          | ConversionLength ↦ lit< tt
-          | Parity ↦ lit< tt
-          | BadCharacter ↦ lit< tt
-          | Interface ↦ lit< tt
-        ]
 
 -- what is known after `fault` if it finds none
 pub seen : {l : ℕ} {hash : Value} {n room : ℕ} → 0 ≡ accept_number l hash n room true → Seen l hash n room
@@ -123,7 +88,7 @@ module _ (l : ℕ) (hash : Value) (div : List ℕ) (len : ℕ) (response work : 
   unfolding accepted_of
   declined r {k} e q =
       let n : number_of l hash div len response (length work) ≡ k = sym (q ∙ e) in
-      let a = ne_eqb k 0 (λ z. some-number r (sym q ∙ z)) in
+      let a = ne_eqb k 0 (λ z. omega (arith, number-some r)) in
       simp (n, a)
 
   pub returned : {k : ℕ} → 0 ≡ number_of l hash div len response (length work) → k ≡ len →

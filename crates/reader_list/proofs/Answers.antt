@@ -8,11 +8,10 @@ use borrow.Author.Tests.{lt-ltb, le-ltb, eq-eqb, ne_eqb}
 use lib.ListN.{length, take, length-map}
 use lib.Seq.{length-take-le}
 use Rattle.octets.specs.Lists.{over}
-use Rattle.std.proofs.Common.{lit<}
 use Rattle.load.specs.Load.{repeated}
 use Rattle.refusals.specs.Numbers.{number_of}
+use Rattle.refusals.specs.Laws.{number-some}
 use Rattle.refusals.specs.declared.Refusal.{Refusal}
-use Rattle.refusals.specs.declared.Refusal.TheVariants.{KeySetCount, KeySetRepeated, ShillHandle, ModeCount, ModeRepeated, Record, FreshCount, PadByte, Output, ListCount, ListRepeated, ListOutput, Blocks, NoneOpens, Payload, SealOutput, Response, WorkBuffer, Authentication, KeyLength, ValueLength, ConversionLength, Parity, BadCharacter, Interface}
 use Rattle.plaid_types.specs.declared.KeySetId.{KeySetId}
 use Rattle.reader_list.specs.declared.Written.{Written}
 use Rattle.reader_list.specs.List.{numbers, given, list_command, list_number, listed, list_output}
@@ -28,37 +27,6 @@ long ids n l h = omega (arith, length-command (given ids n), length-given ids n 
 -- whether a KeySetID is repeated, as the code finds it in the numbers
 pub found : (ids : List KeySetId) (n : ℕ) {all : List ℕ} {r t : Bool} → all ≡ numbers ids → r ≡ repeated (take n all) → r ≡ t → repeated (given ids n) ≡ t
 found ids n q e z = sym (e ∙ ap (λ (l : List ℕ). repeated (take n l)) q) ∙ z
-
--- each refusal has a number
-some-number : (r : Refusal) → 0 < number_of r
-some-number r =
-    elim r as (λ (x : Refusal). 0 < number_of x) [
-      | KeySetCount ↦ lit< tt
-      | KeySetRepeated ↦ lit< tt
-      | ShillHandle ↦ lit< tt
-      | ModeCount ↦ lit< tt
-      | ModeRepeated ↦ lit< tt
-      | Record ↦ lit< tt
-      | FreshCount ↦ lit< tt
-      | PadByte ↦ lit< tt
-      | Output ↦ lit< tt
-      | ListCount ↦ lit< tt
-      | ListRepeated ↦ lit< tt
-      | ListOutput ↦ lit< tt
-      | Blocks ↦ lit< tt
-      | NoneOpens ↦ lit< tt
-      | Payload ↦ lit< tt
-      | SealOutput ↦ lit< tt
-      | Response ↦ lit< tt
-      | WorkBuffer ↦ lit< tt
-      | Authentication ↦ lit< tt
-      | KeyLength ↦ lit< tt
-      | ValueLength ↦ lit< tt
-      | ConversionLength ↦ lit< tt
-      | Parity ↦ lit< tt
-      | BadCharacter ↦ lit< tt
-      | Interface ↦ lit< tt
-    ]
 
 module _ (ids : List KeySetId) (n room : ℕ) where
   pub count_none : n ≡ 0 → list_number ids n room ≡ 11
@@ -86,7 +54,7 @@ module _ (ids : List KeySetId) (n : ℕ) (out : List ℕ) where
       (◌≡◌ {A = Written} (record { number = k; length = 0 }) (listed ids n (length out))) × (out ≡ list_output ids n out)
   unfolding listed list_output
   answer-declined r ek e =
-      let z = ne_eqb (list_number ids n (length out)) 0 (λ z. omega (arith, some-number r)) in
+      let z = ne_eqb (list_number ids n (length out)) 0 (λ z. omega (arith, number-some r)) in
       (ap (λ (x : ℕ). record { number = x; length = 0 }) (ek ∙ e) ∙ sym (simp z), sym (simp z))
 
   pub command-made : {all e : List ℕ} {m : ℕ} → 0 ≡ list_number ids n (length out) →

@@ -6,48 +6,16 @@ use Prim.Native.Nat.{ℕ, ◌*◌, ◌<◌, ◌≤◌}
 use native.Mathlib.Omega.{arith}
 use borrow.Author.Tests.{lt-ltb, le-ltb, eq-eqb, ne_eqb}
 use lib.ListN.{length, get_or, replicate}
-use Rattle.std.proofs.Common.{lit<}
 use Rattle.key_expansion.specs.KeyLength.{is_key_length}
 use Rattle.plaid_types.specs.declared.KeySetId.{KeySetId}
 use Rattle.plaid_types.specs.declared.Value.{Value}
 use Rattle.plaid_types.specs.Keys.{no_value}
 use Rattle.refusals.specs.declared.Refusal.{Refusal}
-use Rattle.refusals.specs.declared.Refusal.TheVariants.{KeySetCount, KeySetRepeated, ShillHandle, ModeCount, ModeRepeated, Record, FreshCount, PadByte, Output, ListCount, ListRepeated, ListOutput, Blocks, NoneOpens, Payload, SealOutput, Response, WorkBuffer, Authentication, KeyLength, ValueLength, ConversionLength, Parity, BadCharacter, Interface}
 use Rattle.refusals.specs.Numbers.{number_of}
+use Rattle.refusals.specs.Laws.{number-some}
 use Rattle.reader_open.specs.declared.Opened.{Opened}
 use Rattle.reader_open.specs.Open.{winner, open_number, no_id, opened_at, opened}
 use Rattle.reader_open.specs.Laws.{winner-at-most}
-
--- no refusal has the number 0
-some-number : (r : Refusal) → 0 < number_of r
-some-number r =
-    elim r as (λ (x : Refusal). 0 < number_of x) [
-      | KeySetCount ↦ lit< tt
-      | KeySetRepeated ↦ lit< tt
-      | ShillHandle ↦ lit< tt
-      | ModeCount ↦ lit< tt
-      | ModeRepeated ↦ lit< tt
-      | Record ↦ lit< tt
-      | FreshCount ↦ lit< tt
-      | PadByte ↦ lit< tt
-      | Output ↦ lit< tt
-      | ListCount ↦ lit< tt
-      | ListRepeated ↦ lit< tt
-      | ListOutput ↦ lit< tt
-      | Blocks ↦ lit< tt
-      | NoneOpens ↦ lit< tt
-      | Payload ↦ lit< tt
-      | SealOutput ↦ lit< tt
-      | Response ↦ lit< tt
-      | WorkBuffer ↦ lit< tt
-      | Authentication ↦ lit< tt
-      | KeyLength ↦ lit< tt
-      | ValueLength ↦ lit< tt
-      | ConversionLength ↦ lit< tt
-      | Parity ↦ lit< tt
-      | BadCharacter ↦ lit< tt
-      | Interface ↦ lit< tt
-    ]
 
 -- the winner's place, if a block opens
 pub winner-below : (l : ℕ) (ids : List KeySetId) (n : ℕ) (blocks : List ℕ) {w : ℕ} → length ids ≡ 16 → n ≤ 16 → w ≡ winner l ids n blocks → (w ≡ n → ⊥) → w < n
@@ -59,7 +27,7 @@ module _ (l : ℕ) (ids : List KeySetId) (n : ℕ) (blocks : List ℕ) where
   unfolding opened
   not-opened r ek ev e =
       ap₂ (λ (x : ℕ) (y : Value). record { number = x; place = 0; id = no_id; div_data = replicate 16 0; rnd1 = y }) (ek ∙ e) ev
-      ∙ sym (simp (ne_eqb (open_number l ids n blocks) 0 (λ z. omega (arith, some-number r))))
+      ∙ sym (simp (ne_eqb (open_number l ids n blocks) 0 (λ z. omega (arith, number-some r))))
 
   pub opened-found : {w : ℕ} {r : Opened} → 0 ≡ open_number l ids n blocks → w ≡ winner l ids n blocks → r ≡ opened_at l (get_or ids w no_id) blocks w → r ≡ opened l ids n blocks
   unfolding opened

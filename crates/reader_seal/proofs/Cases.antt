@@ -13,10 +13,9 @@ use Rattle.plaid_types.specs.Keys.{wide, held, bytes_of, value_of, no_value}
 use Rattle.plaid_types.specs.KeyLaws.{held-wide, value-bytes, length-bytes}
 use Rattle.plaid_types.specs.declared.Value.{Value}
 use Rattle.plaid_types.specs.declared.OpModeId.{OpModeId}
-use Rattle.std.proofs.Common.{lit<}
 use Rattle.refusals.specs.declared.Refusal.{Refusal}
-use Rattle.refusals.specs.declared.Refusal.TheVariants.{KeySetCount, KeySetRepeated, ShillHandle, ModeCount, ModeRepeated, Record, FreshCount, PadByte, Output, ListCount, ListRepeated, ListOutput, Blocks, NoneOpens, Payload, SealOutput, Response, WorkBuffer, Authentication, KeyLength, ValueLength, ConversionLength, Parity, BadCharacter, Interface}
 use Rattle.refusals.specs.Numbers.{number_of}
+use Rattle.refusals.specs.Laws.{number-some}
 use Rattle.diversification.specs.Diversification.{diversified_by}
 use Rattle.diversification.specs.Laws.{length-diversified}
 use Rattle.reader_seal.specs.Seal.{keys_hash_of, lc_of, payload_most, sealed_data, final_command, seal_command, seal_number, sealed_of, seal_output}
@@ -62,37 +61,6 @@ module _ (l : ℕ) (fa rnd1 rnd2 : Value) (p room : ℕ) where
             no-fault h =
                 simp (one, eq-eqb fa.length l f, eq-eqb rnd1.length l a, eq-eqb rnd2.length l b, le-ltb (payload_most l) p m, le-ltb room (lc_of l p + 6) h)
 
--- no refusal has the number 0
-some-number : (r : Refusal) → 0 < number_of r
-some-number r =
-    elim r as (λ (x : Refusal). 0 < number_of x) [
-      | KeySetCount ↦ lit< tt
-      | KeySetRepeated ↦ lit< tt
-      | ShillHandle ↦ lit< tt
-      | ModeCount ↦ lit< tt
-      | ModeRepeated ↦ lit< tt
-      | Record ↦ lit< tt
-      | FreshCount ↦ lit< tt
-      | PadByte ↦ lit< tt
-      | Output ↦ lit< tt
-      | ListCount ↦ lit< tt
-      | ListRepeated ↦ lit< tt
-      | ListOutput ↦ lit< tt
-      | Blocks ↦ lit< tt
-      | NoneOpens ↦ lit< tt
-      | Payload ↦ lit< tt
-      | SealOutput ↦ lit< tt
-      | Response ↦ lit< tt
-      | WorkBuffer ↦ lit< tt
-      | Authentication ↦ lit< tt
-      | KeyLength ↦ lit< tt
-      | ValueLength ↦ lit< tt
-      | ConversionLength ↦ lit< tt
-      | Parity ↦ lit< tt
-      | BadCharacter ↦ lit< tt
-      | Interface ↦ lit< tt
-    ]
-
 -- what is known after `fault` if it finds none
 pub seen : {l : ℕ} {fa rnd1 rnd2 : Value} {p room : ℕ} → 0 ≡ seal_number l fa rnd1 rnd2 p room → Sealable l fa rnd1 rnd2 p room
 seen {l} {fa} {rnd1} {rnd2} {p} {room} e = sealable l fa rnd1 rnd2 p room (sym e)
@@ -117,7 +85,7 @@ module _ (l : ℕ) (fa : Value) (div : List ℕ) (rnd1 rnd2 : Value) (mode : OpM
       k ≡ number_of r → v ≡ no_value → Answer (record { number = k; length = 0; keys_hash = v }) out
   unfolding sealed_of seal_output
   not-sealed r e ek ev =
-      let f = ne_eqb (seal_number l fa rnd1 rnd2 (length payload) (length out)) 0 (λ y. omega (arith, some-number r)) in
+      let f = ne_eqb (seal_number l fa rnd1 rnd2 (length payload) (length out)) 0 (λ y. omega (arith, number-some r)) in
       (ap₂ (λ (x : ℕ) (y : Value). record { number = x; length = 0; keys_hash = y }) (ek ∙ e) ev ∙ sym (simp f), simp f)
 
   pub command-made :

@@ -4,7 +4,7 @@ use Rattle.plaid_types.specs.Keys.{key_length_of}
 use Rattle.plaid_types.specs.KeyLaws.{lawful-one}
 use Rattle.load.specs.Load.{past_set}
 use Rattle.load.proofs.Laws.{sets-right, key-within, set-right}
-use Rattle.load.proofs.Refused.{number-some}
+use Rattle.refusals.specs.Laws.{number-some}
 use Rattle.key_change.specs.KeyChange.{change_refusal}
 use Rattle.key_change.proofs.Laws.{number-found, change-made, change-refused}
 use Rattle.key_change.proofs.change.Goals as goal

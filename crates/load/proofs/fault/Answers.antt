@@ -3,7 +3,7 @@ use Rattle.std.proofs.Common.{arith}
 use Rattle.std.proofs.lemmas.Bool.Decides.{nat_tests}
 use Rattle.std.proofs.lemmas.Result.{err_from_is_err_and}
 use Rattle.load.specs.Load.{refusal}
-use Rattle.load.proofs.Refused.{number-some}
+use Rattle.refusals.specs.Laws.{number-some}
 use Rattle.load.proofs.fault.Goals as goal
 
 pub returns-then-not-is_key_length : goal.returns-then-not-is_key_length

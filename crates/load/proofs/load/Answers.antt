@@ -2,7 +2,7 @@
 use Rattle.std.proofs.Common.{◌≡◌, sym, length, get_or, length-take, rules, arith}
 use Rattle.load.specs.Load.{past_set, loaded_card}
 use Rattle.load.proofs.Laws.{accepted, key-within, set-right, load-made, load-refused}
-use Rattle.load.proofs.Refused.{number-some}
+use Rattle.refusals.specs.Laws.{number-some}
 use Rattle.load.proofs.load.Goals as goal
 
 pub returns-in-Err : goal.returns-in-Err

@@ -4,7 +4,8 @@ use native.Mathlib.Omega.{arith}
 use lib.ListN.{length}
 use lib.Seq.{length-take-le}
 use Rattle.key_expansion.specs.KeyLength.{is_key_length, length_most}
-use Rattle.reader_accept.proofs.Cases.{some-number, seen, not-deciphered, text-refused, text-accepted}
+use Rattle.refusals.specs.Laws.{number-some}
+use Rattle.reader_accept.proofs.Cases.{seen, not-deciphered, text-refused, text-accepted}
 use Rattle.reader_accept.proofs.Tests.{length-judged}
 use Rattle.std.proofs.Common.{rules}
 use Rattle.std.proofs.lemmas.Result.{err_from_is_err_and}
@@ -14,7 +15,7 @@ pub returns-in_err-fault : goal.returns-in_err-fault
 returns-in_err-fault c =
     let a = c.args in
     let p = err_from_is_err_and c.from_residual.result c.from_residual.ensures.1 in
-    let all = not-deciphered a.l a.keys_hash a.div_data a.record_length a.response.now a.work.now c.in_err-fault.ensures (some-number c.in_err-fault.field-0.0) in
+    let all = not-deciphered a.l a.keys_hash a.div_data a.record_length a.response.now a.work.now c.in_err-fault.ensures (λ z. omega (arith, number-some c.in_err-fault.field-0.0)) in
     record { told = rw (p.1, p.2) all.0; len = rw p.1 tt; bytes = all.1 }
 
 pub slice_bounds-bytes-end : goal.slice_bounds-bytes-end
