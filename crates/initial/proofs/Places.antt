@@ -7,6 +7,7 @@ use native.Mathlib.Nat.{zero-add, add-zero, add_assoc, sub-zero}
 use native.Mathlib.Omega.{arith}
 use lib.Dec.{eqb}
 use lib.ListN.{length}
+use Rattle.work.specs.declared.Made.{Made}
 use Rattle.work.specs.Steps.{Step, comparison, counted, sum_from}
 use Rattle.work.specs.Laws.{sum_from-append, counted-append}
 use Rattle.steps.specs.Made.{set_comparison}
@@ -19,7 +20,6 @@ use Rattle.plaid_types.specs.declared.KeySetSlot.{KeySetSlot}
 use Rattle.initial.specs.Initial.{slot_steps, first_slot, place_steps, first_place}
 use Rattle.initial.specs.Told.{slots_found, places_found}
 use Rattle.initial.proofs.Laws.{counted-slots}
-use Rattle.initial.specs.declared.Found.{Found}
 
 -- before place j of n, which stands at p; the first stands at p₀
 pub record PlacesDone (sets : List KeySetSlot) (formed : Bool) (d : List ℕ) (p₀ n p j first count s : ℕ) : Type 0 where
@@ -34,8 +34,8 @@ first-cases first f rest true e = simp e
 first-cases first f rest false e = simp e
 
 -- a place adds a comparison for each slot
-pub count-slots : {f : Found} (present : Bool) (v : KeySetId) (s : ℕ) (sets : List KeySetSlot) → length sets ≡ 8 → f ≡ slots_found present v sets s → f.count ≡ 8
-count-slots present v s sets l e = ap (λ (x : Found). x.count) e ∙ counted-slots comparison present v sets ∙ omega arith
+pub count-slots : {f : Made ℕ} (present : Bool) (v : KeySetId) (s : ℕ) (sets : List KeySetSlot) → length sets ≡ 8 → f ≡ slots_found present v sets s → f.count ≡ 8
+count-slots present v s sets l e = ap (λ (x : Made ℕ). x.count) e ∙ counted-slots comparison present v sets ∙ omega arith
 
 -- a malformed list has only missing places, wherever the look starts
 slots-missing : (v w : KeySetId) (sets : List KeySetSlot) → slot_steps false v sets ≡ slot_steps false w sets
@@ -83,13 +83,13 @@ module _ (sets : List KeySetSlot) (formed : Bool) (d : List ℕ) where
 
   -- a turn, where the entry at p is already named e
   turn :
-      {p₀ n p j first count s : ℕ} (e : Option Entry) (f : Found)
+      {p₀ n p j first count s : ℕ} (e : Option Entry) (f : Made ℕ)
       → length sets ≡ 8
       → j < n
       → e ≡ entry_at d p
       → f ≡ slots_found (formed && is_some e) (entry_id e) sets s
       → PlacesDone sets formed d p₀ n p j first count s
-      → PlacesDone sets formed d p₀ n (next_place p e) (j + 1) (cond (eqb first 8) f.at first) (count + f.count) f.sum
+      → PlacesDone sets formed d p₀ n (next_place p e) (j + 1) (cond (eqb first 8) f.value first) (count + f.count) f.sum
   turn {p₀} {n} {p} {j} {first} {count} {s} e f l h en fn q =
       let k : n - j ≡ suc (n - (j + 1)) = omega arith in
       let now : List Step = slot_steps (formed && is_some e) (entry_id e) sets in
@@ -106,23 +106,23 @@ module _ (sets : List KeySetSlot) (formed : Bool) (d : List ℕ) where
         few = omega (arith, q.few);
         counts =
             add_assoc count f.count (counted comparison rest)
-            ∙ ap (λ (x : ℕ). count + x) (ap (λ (x : ℕ). x + counted comparison rest) (ap (λ (x : Found). x.count) fn) ∙ sym (counted-append comparison now rest))
+            ∙ ap (λ (x : ℕ). count + x) (ap (λ (x : ℕ). x + counted comparison rest) (ap (λ (x : Made ℕ). x.count) fn) ∙ sym (counted-append comparison now rest))
             ∙ ap (λ (x : List Step). count + counted comparison x) (sym split)
             ∙ q.counts;
         sums =
-            ap (λ (x : Found). sum_from x.sum rest) fn
+            ap (λ (x : Made ℕ). sum_from x.sum rest) fn
             ∙ sym (sum_from-append s now rest)
             ∙ ap (sum_from s) (sym split)
             ∙ q.sums;
         firsts =
-            ap (λ (x : Found). cond (eqb (cond (eqb first 8) x.at first) 8) more (cond (eqb first 8) x.at first)) fn
+            ap (λ (x : Made ℕ). cond (eqb (cond (eqb first 8) x.value first) 8) more (cond (eqb first 8) x.value first)) fn
             ∙ first-cases first found more (eqb first 8) refl
             ∙ ap (λ (x : ℕ). cond (eqb first 8) x first) (sym look)
             ∙ q.firsts;
       }
 
   pub places-turn :
-      {p₀ n p j first count s next place : ℕ} {present : Bool} {v : KeySetId} {e : Option Entry} {f : Found}
+      {p₀ n p j first count s next place : ℕ} {present : Bool} {v : KeySetId} {e : Option Entry} {f : Made ℕ}
       → length sets ≡ 8
       → j < n
       → PlacesDone sets formed d p₀ n p j first count s
@@ -130,7 +130,7 @@ module _ (sets : List KeySetSlot) (formed : Bool) (d : List ℕ) where
       → present ≡ (formed && is_some e)
       → v ≡ entry_id e
       → f ≡ slots_found present v sets s
-      → next ≡ cond (eqb first 8) f.at first
+      → next ≡ cond (eqb first 8) f.value first
       → place ≡ next_place p e
       → PlacesDone sets formed d p₀ n place (j + 1) next (count + f.count) f.sum
   places-turn {p₀} {n} {p} {j} {first} {count} {s} {next} {place} {present} {v} {e} {f} l h q en pn vn fn g w =
@@ -140,7 +140,7 @@ module _ (sets : List KeySetSlot) (formed : Bool) (d : List ℕ) where
       {p₀ n p j first count s : ℕ}
       → n ≤ j
       → PlacesDone sets formed d p₀ n p j first count s
-      → ◌≡◌ {A = Found} (record { at = first; count = count; sum = s }) (places_found sets formed d p₀ n)
+      → ◌≡◌ {A = Made ℕ} (record { value = first; count = count; sum = s }) (places_found sets formed d p₀ n)
   unfolding place_steps first_place
   places-end {p₀} {n} {p} {j} {first} {count} {s} h q =
       let z : n - j ≡ 0 = omega arith in

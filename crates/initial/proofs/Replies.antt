@@ -7,6 +7,7 @@ use native.Mathlib.Omega.{arith}
 use borrow.Author.Tests.{lt-ltb, le-ltb}
 use lib.ListN.{length, get_or, length-append}
 use Rattle.octets.specs.Lists.{part, over}
+use Rattle.work.specs.declared.Made.{Made}
 use Rattle.work.specs.Steps.{comparison, counted, work_sum}
 use Rattle.frame.specs.Declines.{pad_bytes}
 use Rattle.plaid_types.specs.Keys.{lawful, key_length_of, str1_length}
@@ -19,7 +20,6 @@ use Rattle.plaid_types.specs.declared.Card.{Card}
 use Rattle.initial.specs.Initial.{initial_steps, slot_of, str1, block_of, opened_with, accepted_initial, refused_initial, initial_reply}
 use Rattle.initial.specs.Told.{data_found, head_of, told_initial}
 use Rattle.initial.proofs.Laws.{initial-length}
-use Rattle.initial.specs.declared.Found.{Found}
 use Rattle.initial.specs.declared.Initial.{Initial}
 use Rattle.octets.specs.Writes.{over-next}
 use Rattle.frame.specs.Laws.{length-pads}
@@ -47,32 +47,32 @@ unfolding block_of
 block_writes l fresh text o h lf a q₁ q₂ =
     over-next o (head_of l fresh) text 0 (omega (arith, length-append (pad_bytes l fresh) (0 ∷ []), length-pads l fresh lf, str1-most l h)) (omega arith) q₁ q₂
 
-module _ (c : Card) (d fresh : List ℕ) {f : Found} {l : ℕ} (lf : length fresh ≡ 253) (ld : length c.div_data ≡ 16)
+module _ (c : Card) (d fresh : List ℕ) {f : Made ℕ} {l : ℕ} (lf : length fresh ≡ 253) (ld : length c.div_data ≡ 16)
     (el : l ≡ key_length_of c) (q : f ≡ data_found c.sets d) where
   abbrev L : ℕ
   L = key_length_of c
 
-  slot-found : f.at ≡ slot_of c d
+  slot-found : f.value ≡ slot_of c d
   unfolding slot_of
-  slot-found = ap (λ (x : Found). x.at) q
+  slot-found = ap (λ (x : Made ℕ). x.value) q
 
   steps-counted : f.count ≡ counted comparison (initial_steps c d)
   unfolding initial_steps
-  steps-counted = ap (λ (x : Found). x.count) q
+  steps-counted = ap (λ (x : Made ℕ). x.count) q
 
   steps-summed : f.sum ≡ work_sum (initial_steps c d)
   unfolding initial_steps
-  steps-summed = ap (λ (x : Found). x.sum) q
+  steps-summed = ap (λ (x : Made ℕ). x.sum) q
 
   told_of : (r : Reply) → r ≡ initial_reply c d fresh → r.steps ≡ initial_steps c d →
       ◌≡◌ {A = Initial} (record { handle = r.handle; comparisons = f.count; length = 256; sum = f.sum; session = r.session }) (told_initial r)
   told_of r e s = rw (s, steps-counted, steps-summed, ap (λ (x : Reply). length x.bytes) e, initial-length c d fresh ld lf)
 
-  is-accepted : f.at < 8 → accepted_initial c d fresh (get_or c.sets f.at no_set) ≡ initial_reply c d fresh
+  is-accepted : f.value < 8 → accepted_initial c d fresh (get_or c.sets f.value no_set) ≡ initial_reply c d fresh
   unfolding initial_reply
   is-accepted h = rw (slot-found, lt-ltb (slot_of c d) 8 (rw slot-found at h))
 
-  is-refused : 8 ≤ f.at → refused_initial c d fresh ≡ initial_reply c d fresh
+  is-refused : 8 ≤ f.value → refused_initial c d fresh ≡ initial_reply c d fresh
   unfolding initial_reply
   is-refused h = rw (le-ltb (slot_of c d) 8 (rw slot-found at h))
 
@@ -86,21 +86,21 @@ module _ (c : Card) (d fresh : List ℕ) {f : Found} {l : ℕ} (lf : length fres
   pub accepted :
       (o : List ℕ) (x : KeySetSlot) {e₁ e₂ : List ℕ} {s : Session}
       → length c.sets ≡ 8
-      → f.at < 8
-      → s ≡ opened_with (get_or c.sets f.at x) (part fresh 0 l)
+      → f.value < 8
+      → s ≡ opened_with (get_or c.sets f.value x) (part fresh 0 l)
       → e₁ ≡ over o 0 (head_of l fresh)
-      → e₂ ≡ over e₁ (256 - str1_length l) (str1 (get_or c.sets f.at x).id c.div_data (part fresh 0 l))
+      → e₂ ≡ over e₁ (256 - str1_length l) (str1 (get_or c.sets f.value x).id c.div_data (part fresh 0 l))
       → (◌≡◌ {A = Initial}
-      (record { handle = (get_or c.sets f.at x).handle; comparisons = f.count; length = 256; sum = f.sum; session = s })
+      (record { handle = (get_or c.sets f.value x).handle; comparisons = f.count; length = 256; sum = f.sum; session = s })
       (told_initial (initial_reply c d fresh)))
       × (e₂ ≡ over o 0 (initial_reply c d fresh).bytes)
   accepted o x {e₁} {e₂} {s} ls h sn w₁ w₂ =
-      let slot : KeySetSlot = get_or c.sets f.at x in
+      let slot : KeySetSlot = get_or c.sets f.value x in
       let i : KeySetId = slot.id in
       let sl : s ≡ opened_with slot (part fresh 0 L) = sn ∙ ap (λ (n : ℕ). opened_with slot (part fresh 0 n)) el in
       let wl = w₂ ∙ ap (λ (n : ℕ). over e₁ (256 - str1_length n) (str1 i c.div_data (part fresh 0 n))) el in
-      let k : get_or c.sets f.at x ≡ get_or c.sets f.at no_set = get_or-there c.sets f.at x no_set (omega arith) in
-      let r : Reply = accepted_initial c d fresh (get_or c.sets f.at no_set) in
+      let k : get_or c.sets f.value x ≡ get_or c.sets f.value no_set = get_or-there c.sets f.value x no_set (omega arith) in
+      let r : Reply = accepted_initial c d fresh (get_or c.sets f.value no_set) in
       let e : r ≡ initial_reply c d fresh = is-accepted h in (
         rw (sl, k) (told_of r e refl ∙ ap told_initial e),
         block_writes L fresh (str1 i c.div_data (part fresh 0 L)) o most lf refl (head-of o w₁) wl ∙ rw k (ap (λ (y : Reply). over o 0 y.bytes) e),
@@ -108,7 +108,7 @@ module _ (c : Card) (d fresh : List ℕ) {f : Found} {l : ℕ} (lf : length fres
 
   pub refused :
       (o : List ℕ) {n at : ℕ} {e₁ e₂ text : List ℕ} {s : Session}
-      → 8 ≤ f.at
+      → 8 ≤ f.value
       → s ≡ no_session
       → n ≡ str1_length l
       → text ≡ part fresh 0 n

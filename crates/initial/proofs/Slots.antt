@@ -9,21 +9,20 @@ use native.Mathlib.Omega.{arith}
 use lib.Dec.{eqb}
 use lib.ListN.{length, drop, get_or, drop_of_length-le}
 use lib.Seq.{drop-cons}
+use Rattle.work.specs.declared.Made.{Made}
 use Rattle.work.specs.Steps.{comparison, counted, sum_from}
 use Rattle.steps.specs.Made.{set_matched, set_comparison, kept}
 use Rattle.steps.specs.Laws.{kept_next, kept-start, kept-last}
-use Rattle.steps.specs.declared.Compared.{Compared}
 use Rattle.plaid_types.specs.declared.KeySetId.{KeySetId}
 use Rattle.plaid_types.specs.declared.KeySetSlot.{KeySetSlot}
 use Rattle.initial.specs.Initial.{slot_steps, first_slot}
 use Rattle.initial.specs.Told.{slots_found}
-use Rattle.initial.specs.declared.Found.{Found}
 
 -- what one comparison gives
-abbrev pub compared_with : Bool → KeySetId → KeySetSlot → ℕ → Compared
+abbrev pub compared_with : Bool → KeySetId → KeySetSlot → ℕ → Made Bool
 compared_with present v k s =
     record {
-      hit = set_matched present v k.held k.id;
+      value = set_matched present v k.held k.id;
       count = counted comparison (set_comparison present v k.held k.id ∷ []);
       sum = sum_from s (set_comparison present v k.held k.id ∷ []);
     }
@@ -49,23 +48,23 @@ module _ (present : Bool) (v : KeySetId) (sets : List KeySetSlot) where
   slots-start s = record { reach = omega arith; few = omega arith; counts = zero-add _; sums = refl; firsts = kept-start 8 _ }
 
   pub slots-turn :
-      {s₀ i first count s next : ℕ} {r : Compared} (d : KeySetSlot)
+      {s₀ i first count s next : ℕ} {r : Made Bool} (d : KeySetSlot)
       → length sets ≡ 8
       → i < 8
       → SlotsDone present v sets s₀ i first count s
       → r ≡ compared_with present v (get_or sets i d) s
-      → next ≡ kept 8 first i r.hit
+      → next ≡ kept 8 first i r.value
       → SlotsDone present v sets s₀ (i + 1) next (count + r.count) r.sum
   slots-turn {s₀} {i} {first} {count} {s} {next} {r} d l h q e f =
       let m : i < length sets = omega arith in
-      let one : r.count ≡ 1 = ap (λ (x : Compared). x.count) e in
+      let one : r.count ≡ 1 = ap (λ (x : Made Bool). x.count) e in
       let all = rw (steps_next i d m) at q.counts in
       record {
         reach = omega arith;
         few = omega (arith, q.few);
         counts = omega (arith, one) ∙ all;
-        sums = rw (ap (λ (x : Compared). x.sum) e) (rw (steps_next i d m) at q.sums);
-        firsts = rw (f, kept_next 8 first i (first_slot (i + 1) present v (drop (i + 1) sets)) r.hit h, ap (λ (x : Compared). x.hit) e) (rw (first_next i d m) at q.firsts);
+        sums = rw (ap (λ (x : Made Bool). x.sum) e) (rw (steps_next i d m) at q.sums);
+        firsts = rw (f, kept_next 8 first i (first_slot (i + 1) present v (drop (i + 1) sets)) r.value h, ap (λ (x : Made Bool). x.value) e) (rw (first_next i d m) at q.firsts);
       }
 
   pub slots_end :
@@ -73,7 +72,7 @@ module _ (present : Bool) (v : KeySetId) (sets : List KeySetSlot) where
       → length sets ≡ 8
       → 8 ≤ i
       → SlotsDone present v sets s₀ i first count s
-      → ◌≡◌ {A = Found} (record { at = first; count = count; sum = s }) (slots_found present v sets s₀)
+      → ◌≡◌ {A = Made ℕ} (record { value = first; count = count; sum = s }) (slots_found present v sets s₀)
   slots_end {s₀} {i} {first} {count} {s} l h q =
       let n : i ≡ 8 = omega (arith, q.reach) in
       let z : drop i sets ≡ [] = drop_of_length-le sets {i = i} (omega arith) in

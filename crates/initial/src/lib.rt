@@ -11,18 +11,11 @@ ghost use Rattle.initial.specs.Told.{slots_found, data_found, head_of, told_init
 
 use list::{Cursor, Entry};
 use plaid_types::{Answer, Card, KeySetId, KeySetSlot, Session};
+use work::Made;
 
-// Where the first match is, how many comparisons there were, and the work sum after them.
-// `at` is 8 for none: `steps::keep` works with that number, in as many instructions whatever it finds.
-#[derive(Clone, Copy)]
-pub struct Found {
-    pub at: usize,
-    pub count: usize,
-    pub sum: u32,
-}
-
-// A place against all eight slots, with no early end.
-fn compare_slots(sets: [KeySetSlot; Card::KEY_SETS], present: bool, v: KeySetId, sum: u32) -> Found
+// A place against all eight slots, with no early end: where the first match is.
+// 8 is for none: `steps::keep` works with that number, in as many instructions whatever it finds.
+fn compare_slots(sets: [KeySetSlot; Card::KEY_SETS], present: bool, v: KeySetId, sum: u32) -> Made<usize>
     ensures { result ≡ slots_found present v sets sum }
 {
     let mut at = Card::KEY_SETS;
@@ -32,9 +25,13 @@ fn compare_slots(sets: [KeySetSlot; Card::KEY_SETS], present: bool, v: KeySetId,
         let c = steps::compare_sets(present, v, k.held, k.id, s);
         s = c.sum;
         count += c.count;
-        at = steps::keep(Card::KEY_SETS, at, i, c.hit);
+        at = steps::keep(Card::KEY_SETS, at, i, c.value);
     }
-    Found { at, count, sum: s }
+    Made {
+        value: at,
+        count,
+        sum: s,
+    }
 }
 
 // The first entry that the card holds wins, not the first slot.
@@ -66,7 +63,7 @@ fn place_after(e: Option<Entry>, at: usize) -> usize
 }
 
 // Every place of the list against every slot, missing places and empty slots too.
-fn compare_places(sets: [KeySetSlot; Card::KEY_SETS], d: &[u8]) -> Found
+fn compare_places(sets: [KeySetSlot; Card::KEY_SETS], d: &[u8]) -> Made<usize>
     requires { length d.now < 256 }
     ensures { result ≡ data_found sets d.now }
 {
@@ -84,10 +81,14 @@ fn compare_places(sets: [KeySetSlot; Card::KEY_SETS], d: &[u8]) -> Found
         let f = compare_slots(sets, octets::both(formed, present), id_of(e), s);
         s = f.sum;
         count += f.count;
-        at = first_of(at, f.at);
+        at = first_of(at, f.value);
         p = place_after(e, p);
     }
-    Found { at, count, sum: s }
+    Made {
+        value: at,
+        count,
+        sum: s,
+    }
 }
 
 // The fresh bytes behind F.
@@ -183,7 +184,7 @@ pub fn run(card: Card, d: &[u8], fresh: &[u8], out: &mut [u8]) -> Initial
     let sets = card.sets;
     let f = compare_places(sets, d);
     head(l, fresh, out);
-    let at = f.at;
+    let at = f.value;
     if at < Card::KEY_SETS {
         let k = sets[at];
         let div = card.div_data;
