@@ -91,7 +91,7 @@ fn diversified(table: &[u8; 256], fa_key: &[u8], div: [u8; 16]) -> [u8; 32]
     let rows = key_expansion::expand(table, fa_key);
     let n = fa_key.len() / 4 + 7;
     let d = diversification::diversify(table, fa_key, &rows[..n], div, 0);
-    d.key
+    d.value
 }
 
 // What the command's data are made of, with the key for them: RND2 and KeysHash are as long as that key.

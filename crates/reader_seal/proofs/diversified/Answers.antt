@@ -4,7 +4,6 @@ use native.Mathlib.Omega.{arith}
 use lib.ListN.{length}
 use Rattle.key_expansion.specs.KeyLength.{length_most}
 use Rattle.aes.specs.Rows.{lent, length-lent}
-use Rattle.diversification.specs.declared.Diversified.{Diversified}
 use Rattle.std.proofs.Common.{rules}
 use Rattle.reader_seal.proofs.diversified.Goals as goal
 
@@ -20,4 +19,4 @@ pub diversify-d-requires : goal.diversify-d-requires
 diversify-d-requires c = (c.requires.0, c.requires.1, lent c.args.fa_key.now c.expand-rows.ensures)
 
 pub returns : goal.returns
-returns c = ap (λ (d : Diversified). d.key) c.diversify-d.ensures
+returns c = ap (λ r. r.value) c.diversify-d.ensures
