@@ -95,10 +95,9 @@ fn entry_at(d: &[u8], at: usize) -> Option<Entry>
     if l.value != 2 {
         return None;
     }
-    let p = l.next;
     Some(Entry {
-        id: id_at(d, p),
-        next: p + 2,
+        id: id_at(d, l.next),
+        next: l.next + 2,
     })
 }
 
@@ -177,20 +176,7 @@ fn walk(d: &[u8], at: usize, n: usize) -> usize
 fn zeros_end(d: &[u8], at: usize) -> bool
     ensures { result ≡ ended d.now Form.Indefinite at }
 {
-    if d.len() < 2 {
-        return false;
-    }
-    let last = d.len() - 2;
-    if last < at {
-        return false;
-    }
-    if at < last {
-        return false;
-    }
-    if d[at] != 0 {
-        return false;
-    }
-    d[at + 1] == 0
+    2 <= d.len() && at == d.len() - 2 && d[at] == 0 && d[at + 1] == 0
 }
 
 // Whether the entries end at a place: the data end there, or after two zero bytes that stand there.
