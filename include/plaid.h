@@ -261,26 +261,26 @@ typedef char plaid_size_is_64_bits[sizeof(size_t) == 8 ? 1 : -1];
  * the structs that pass by value are in it, the return address, and all that
  * the library uses below. The result is not: it stands where the caller has
  * it. What interrupts and signals put on the same stack comes on top. So does
- * what the platform's memcpy and memset, which the library calls, take beyond
- * their return address.
+ * what the platform's memcpy, memmove and memset, which the library calls,
+ * take beyond their return address.
  *
  * Measured on x86-64 and not proved: by the deepest byte that accepted,
  * refused and declined calls write on a painted stack, and by the bytes that
  * the library's machine code reserves, written or not, in its deepest chain
  * of calls. It is the greater of the two, in whole sixteens.
  */
-#define PLAID_STACK_LOAD 14320
-#define PLAID_STACK_LOAD_SETS 15712
-#define PLAID_STACK_COMMAND 15600
+#define PLAID_STACK_LOAD 11792
+#define PLAID_STACK_LOAD_SETS 9936
+#define PLAID_STACK_COMMAND 16304
 #define PLAID_STACK_READ_TRIES 1872
-#define PLAID_STACK_LIST 112
-#define PLAID_STACK_OPEN 320
-#define PLAID_STACK_SEAL 1872
-#define PLAID_STACK_ACCEPT 1280
+#define PLAID_STACK_LIST 208
+#define PLAID_STACK_OPEN 352
+#define PLAID_STACK_SEAL 1952
+#define PLAID_STACK_ACCEPT 1296
 #define PLAID_STACK_RECORD 16
-#define PLAID_STACK_WIEGAND_RECORD 112
-#define PLAID_STACK_WIEGAND_TEXT 80
-#define PLAID_STACK_UUID_RECORD 176
+#define PLAID_STACK_WIEGAND_RECORD 128
+#define PLAID_STACK_WIEGAND_TEXT 240
+#define PLAID_STACK_UUID_RECORD 416
 #define PLAID_STACK_UUID_TEXT 16
 
 /*
