@@ -6,10 +6,10 @@
 mod tally;
 
 ghost use Rattle.std.specs.Prelude.{◌≡◌, ◌<◌, true, length};
-ghost use Rattle.sbox.specs.Rule.{sbox_table, inv_table};
 ghost use Rattle.key_expansion.specs.KeyLength.{is_key_length};
 
 pub use rsp::Ran;
+use sbox::{InvSBox, SBox};
 pub use tally::Tally;
 
 #[derive(Clone, Copy, Debug, PartialEq, Eq)]
@@ -26,13 +26,13 @@ pub struct Mode {
 }
 
 fn one_block(
-    table: &[u8; 256],
-    inverse: &[u8; 256],
+    table: &SBox,
+    inverse: &InvSBox,
     w: &[[u8; 16]],
     b: [u8; 16],
     direction: Direction,
 ) -> [u8; 16]
-    requires { (table.now ≡ sbox_table) × (inverse.now ≡ inv_table) × (1 < length w.now) }
+    requires { 1 < length w.now }
 {
     match direction {
         Direction::Encipher => aes::encipher(table, w, b),

@@ -2,7 +2,6 @@
 #![tactic(auto)]
 
 ghost use Rattle.std.specs.Prelude.{◌≡◌, true, ◌+◌, ◌/◌, ◌^◌, ◌<◌, length};
-ghost use Rattle.sbox.specs.Rule.{sbox_table, inv_table};
 ghost use Rattle.key_expansion.specs.KeyLength.{is_key_length};
 ghost use Rattle.key_expansion.specs.Schedule.{fifteen};
 ghost use Rattle.aes.specs.Aes.{aes_under, inv_aes_under, cipher_by, inv_cipher_by};
@@ -11,11 +10,12 @@ ghost use Rattle.work.specs.Weights.{mixed_prepared};
 ghost use Rattle.cbc.specs.Cbc.{◌⊕◌, encrypted_whole, decrypted_whole};
 ghost use Rattle.cbc.specs.Steps.{enciphered, deciphered, made};
 
+use sbox::{InvSBox, SBox};
 use work::{Kind, Made, Prepared};
 
 // One block encrypted after the block before it. The key is only what the work sum shows, and prepared for that.
 fn encipher_block(
-    table: &[u8; 256],
+    table: &SBox,
     key: Prepared,
     w: &[[u8; 16]],
     before: [u8; 16],
@@ -23,7 +23,7 @@ fn encipher_block(
     count: usize,
     sum: u32,
 ) -> Made<[u8; 16]>
-    requires { (table.now ≡ sbox_table) × (count + 1 < 2 ^ 64) × (1 < length w.now) }
+    requires { (count + 1 < 2 ^ 64) × (1 < length w.now) }
     ensures { (result.value ≡ cipher_by w.now (plain ⊕ before)) × (result.count ≡ count + 1) × (result.sum ≡ mixed_all (mixed_all (mixed_prepared (mixed sum encipherment) key) (plain ⊕ before)) (cipher_by w.now (plain ⊕ before))) }
 {
     let input = rounds::xor_block(plain, before);
@@ -38,7 +38,7 @@ fn encipher_block(
 
 // One block decrypted after the block before it.
 fn decipher_block(
-    table: &[u8; 256],
+    table: &InvSBox,
     key: Prepared,
     w: &[[u8; 16]],
     before: [u8; 16],
@@ -46,7 +46,7 @@ fn decipher_block(
     count: usize,
     sum: u32,
 ) -> Made<[u8; 16]>
-    requires { (table.now ≡ inv_table) × (count + 1 < 2 ^ 64) × (1 < length w.now) }
+    requires { (count + 1 < 2 ^ 64) × (1 < length w.now) }
     ensures { (result.value ≡ inv_cipher_by w.now cipher ⊕ before) × (result.count ≡ count + 1) × (result.sum ≡ mixed_all (mixed_all (mixed_prepared (mixed sum decipherment) key) cipher) (inv_cipher_by w.now cipher)) }
 {
     let output = aes::decipher(table, w, cipher);

@@ -2,13 +2,13 @@
 #![tactic(auto)]
 
 ghost use Rattle.std.specs.Prelude.{◌≡◌, true, ◌/◌, length};
-ghost use Rattle.sbox.specs.Rule.{sbox_table};
 ghost use Rattle.key_expansion.specs.KeyLength.{is_key_length};
 ghost use Rattle.key_expansion.specs.KeyExpansion.{round_keys};
 ghost use Rattle.work.specs.Steps.{encipherment, counted, sum_from};
 ghost use Rattle.plaid_types.specs.Keys.{wide};
 ghost use Rattle.diversification.specs.Diversification.{flipped, diversified_by, diversify_steps};
 
+use sbox::SBox;
 use work::{Kind, Made, Prepared};
 
 // The top bit of the first byte flipped.
@@ -22,13 +22,13 @@ fn flip(div: [u8; 16]) -> [u8; 16]
 
 // The diversified key, in the first of 32 bytes. By AES itself: one step for a FAKey of 16 bytes, and two for a longer one. The rows are the FAKey's.
 pub fn diversify(
-    table: &[u8; 256],
+    table: &SBox,
     fa_key: &[u8],
     w: &[[u8; 16]],
     div: [u8; 16],
     sum: u32,
 ) -> Made<[u8; 32]>
-    requires { (table.now ≡ sbox_table) × (is_key_length (length fa_key.now) ≡ true) × (w.now ≡ round_keys (length fa_key.now / 4) fa_key.now) }
+    requires { (is_key_length (length fa_key.now) ≡ true) × (w.now ≡ round_keys (length fa_key.now / 4) fa_key.now) }
     ensures { result ≡ record { value = wide (diversified_by fa_key.now div); count = counted encipherment (diversify_steps fa_key.now div); sum = sum_from sum (diversify_steps fa_key.now div) } }
 {
     let shown = work::prepare(fa_key);

@@ -4,7 +4,6 @@
 ghost use Rattle.std.specs.Prelude.{◌≡◌, cond, true, ◌&&◌, ◌++◌, ◌+◌, ◌-◌, ◌*◌, ◌/◌, ◌<◌, ◌≤◌, leb, length, get_or};
 ghost use Rattle.octets.specs.Bytes.{same};
 ghost use Rattle.octets.specs.Lists.{part, over};
-ghost use Rattle.sbox.specs.Rule.{sbox_table};
 ghost use Rattle.key_expansion.specs.KeyLength.{is_key_length};
 ghost use Rattle.key_expansion.specs.Schedule.{fifteen};
 ghost use Rattle.aes.specs.Aes.{aes_under};
@@ -17,6 +16,7 @@ ghost use Rattle.final_command.specs.Parts.{derived, deciphered_under, hashing, 
 ghost use Rattle.final_command.specs.Told.{told_final};
 
 use plaid_types::{Answer, Card, ModeSlot, OpModeId, Value};
+use sbox::SBox;
 use work::Made;
 
 // A function, so that both values are read before one is taken.
@@ -43,8 +43,8 @@ struct Derived {
 }
 
 // DivData enciphered by AES itself, under the FAKey.
-fn diversify(table: &[u8; 256], fa: &[u8], div: [u8; 16], sum: u32) -> Derived
-    requires { (table.now ≡ sbox_table) × (is_key_length (length fa.now) ≡ true) }
+fn diversify(table: &SBox, fa: &[u8], div: [u8; 16], sum: u32) -> Derived
+    requires { is_key_length (length fa.now) ≡ true }
     ensures { result ≡ derived fa.now div sum }
 {
     let e = steps::expand(table, fa, sum);

@@ -4,7 +4,6 @@
 ghost use Rattle.std.specs.Prelude.{◌≡◌, true, ◌++◌, ◌+◌, ◌*◌, ◌≤◌, length};
 ghost use Rattle.octets.specs.Lists.{over};
 ghost use Rattle.refusals.specs.Numbers.{number_told};
-ghost use Rattle.sbox.specs.Rule.{sbox_table};
 ghost use Rattle.key_expansion.specs.KeyLength.{is_key_length};
 ghost use Rattle.sha_block.specs.Hash.{sha256};
 ghost use Rattle.plaid_types.specs.Keys.{wide};
@@ -22,6 +21,7 @@ ghost use Rattle.reader_seal.specs.Seal.{
 
 use plaid_types::{OpModeId, Reader, Value};
 use refusals::Refusal;
+use sbox::SBox;
 
 // The number of the decline, with nothing else; or 0, the length of the command and KeysHash.
 #[repr(C)]
@@ -84,8 +84,8 @@ fn hashed(rnd1: &[u8], rnd2: &[u8]) -> [u8; 32]
     sha256::digest(&m[..n])
 }
 
-fn diversified(table: &[u8; 256], fa_key: &[u8], div: [u8; 16]) -> [u8; 32]
-    requires { (table.now ≡ sbox_table) × (is_key_length (length fa_key.now) ≡ true) }
+fn diversified(table: &SBox, fa_key: &[u8], div: [u8; 16]) -> [u8; 32]
+    requires { is_key_length (length fa_key.now) ≡ true }
     ensures { result ≡ wide (diversified_by fa_key.now div) }
 {
     let rows = key_expansion::expand(table, fa_key);
@@ -122,8 +122,8 @@ impl<'a> Contents<'a> {
     }
 
     // The command's data, in a buffer of its length.
-    fn write_data(self, table: &[u8; 256], b: &mut [u8])
-        requires { (table.now ≡ sbox_table) × (length b.old ≡ lc_of (length self.key.now) (length self.payload.now)) }
+    fn write_data(self, table: &SBox, b: &mut [u8])
+        requires { length b.old ≡ lc_of (length self.key.now) (length self.payload.now) }
         ensures { b.new ≡ sealed_data (length self.entry.key.now) self.entry.key.now self.entry.mode self.entry.rnd2.now self.entry.payload.now self.entry.hash.now }
     {
         let rows = key_expansion::expand(table, self.key);
@@ -133,8 +133,8 @@ impl<'a> Contents<'a> {
     }
 
     // The command from the start of the output: the data is made where it stands.
-    fn write_command(self, table: &[u8; 256], lc: usize, out: &mut [u8])
-        requires { (table.now ≡ sbox_table) × (length self.payload.now ≤ payload_most (length self.key.now)) × (lc ≡ lc_of (length self.key.now) (length self.payload.now)) × (lc + 6 ≤ length out.old) }
+    fn write_command(self, table: &SBox, lc: usize, out: &mut [u8])
+        requires { (length self.payload.now ≤ payload_most (length self.key.now)) × (lc ≡ lc_of (length self.key.now) (length self.payload.now)) × (lc + 6 ≤ length out.old) }
         ensures { out.new ≡ over out.old 0 (final_command lc (sealed_data (length self.entry.key.now) self.entry.key.now self.entry.mode self.entry.rnd2.now self.entry.payload.now self.entry.hash.now)) }
     {
         let head = [0u8, 0x86, 0, 0, lc as u8];

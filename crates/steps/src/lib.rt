@@ -3,7 +3,6 @@
 
 ghost use Rattle.std.specs.Prelude.{◌≡◌, true, [], ◌∷◌, ◌/◌, length};
 ghost use Rattle.work.specs.Steps.{comparison, expansion, hash_block, mixed_all, sum_from, counted};
-ghost use Rattle.sbox.specs.Rule.{sbox_table};
 ghost use Rattle.key_expansion.specs.KeyLength.{is_key_length};
 ghost use Rattle.key_expansion.specs.Schedule.{fifteen};
 ghost use Rattle.sha_block.specs.Hash.{sha256};
@@ -21,11 +20,12 @@ ghost use Rattle.steps.specs.Made.{
 };
 
 use plaid_types::{KeySetId, OpModeId};
+use sbox::SBox;
 use work::{Kind, Made};
 
 // Expands a key: its round keys. The work sum has the round keys alone, not the zeros after them.
-pub fn expand(table: &[u8; 256], key: &[u8], sum: u32) -> Made<[[u8; 16]; 15]>
-    requires { (table.now ≡ sbox_table) × (is_key_length (length key.now) ≡ true) }
+pub fn expand(table: &SBox, key: &[u8], sum: u32) -> Made<[[u8; 16]; 15]>
+    requires { is_key_length (length key.now) ≡ true }
     ensures { result ≡ record { value = fifteen (length key.now / 4) key.now; count = counted expansion (expansion_step key.now ∷ []); sum = sum_from sum (expansion_step key.now ∷ []) } }
 {
     let rows = key_expansion::expand(table, key);

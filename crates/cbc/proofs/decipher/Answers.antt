@@ -16,9 +16,6 @@ use Rattle.cbc.proofs.decipher.Goals as goal
 pub loop-n-init : goal.loop-n-init
 loop-n-init c = (refl, search rules, refl, simp sub-zero)
 
-pub decipher_block-step-requires : goal.decipher_block-step-requires
-decipher_block-step-requires c = (c.inv_byte_table-table.ensures, search rules, search rules)
-
 pub copy_at-requires : goal.copy_at-requires
 copy_at-requires c =
     let step = c.decipher_block-step in

@@ -16,9 +16,6 @@ use Rattle.cbc.proofs.encipher.Goals as goal
 pub loop-n-init : goal.loop-n-init
 loop-n-init c = (refl, search rules, refl, simp sub-zero)
 
-pub encipher_block-step-requires : goal.encipher_block-step-requires
-encipher_block-step-requires c = (c.byte_table-table.ensures, search rules, search rules)
-
 pub copy_at-requires : goal.copy_at-requires
 copy_at-requires c =
     let step = c.encipher_block-step in

@@ -12,16 +12,16 @@ use Rattle.final_command.proofs.diversify.Goals as goal
 pub slice_bounds-rows-end : goal.slice_bounds-rows-end
 slice_bounds-rows-end c =
     let long : length c.expand-e.result.value ≡ 15 = search (rules, c.expand-e.type_inv) in
-    omega (arith, length_most _ c.requires.1)
+    omega (arith, length_most _ c.requires)
 
 pub slice_bounds-diversify-end : goal.slice_bounds-diversify-end
 slice_bounds-diversify-end c =
     let long : length c.expand-e.result.value ≡ 15 = search (rules, c.expand-e.type_inv) in
-    sym (length-take-le _ c.expand-e.result.value (omega (arith, length_most _ c.requires.1)))
+    sym (length-take-le _ c.expand-e.result.value (omega (arith, length_most _ c.requires)))
 
 pub diversify-k-requires : goal.diversify-k-requires
 diversify-k-requires c =
-    (c.requires.0, c.requires.1, lent c.args.fa.now (ap (λ r. r.value) c.expand-e.ensures))
+    (c.requires, lent c.args.fa.now (ap (λ r. r.value) c.expand-e.ensures))
 
 pub returns : goal.returns
 returns c =

@@ -22,7 +22,7 @@ slice_bounds-fa-end c =
 pub diversify-k-requires : goal.diversify-k-requires
 diversify-k-requires c =
     let long : length c.fa_key-held.result ≡ 32 = search (rules, c.fa_key-held.type_inv) in
-    (c.byte_table-table.ensures, first-lawful c.args.card.key_length c.fa_key-held.result c.lawful-l.ensures long)
+    first-lawful c.args.card.key_length c.fa_key-held.result c.lawful-l.ensures long
 
 pub slice_bounds-long-end : goal.slice_bounds-long-end
 slice_bounds-long-end c =
@@ -37,7 +37,7 @@ slice_bounds-key-end c =
 pub expand-e-requires : goal.expand-e-requires
 expand-e-requires c =
     let long : length c.diversify-k.result.key ≡ 32 = search (rules, c.diversify-k.type_inv) in
-    (c.byte_table-table.ensures, first-lawful c.args.card.key_length c.diversify-k.result.key c.lawful-l.ensures long)
+    first-lawful c.args.card.key_length c.diversify-k.result.key c.lawful-l.ensures long
 
 pub decipher-t-requires : goal.decipher-t-requires
 decipher-t-requires c =

@@ -31,7 +31,7 @@ slice_bounds-key-end c =
 pub expand-e-requires : goal.expand-e-requires
 expand-e-requires c =
     let long : length c.choose-chosen.result ≡ 32 = search (rules, c.choose-chosen.type_inv) in
-    (c.byte_table-table.ensures, first-lawful c.args.card.key_length c.choose-chosen.result c.lawful-l.ensures long)
+    first-lawful c.args.card.key_length c.choose-chosen.result c.lawful-l.ensures long
 
 pub slice_bounds-encipher_under-end-2 : goal.slice_bounds-encipher_under-end-2
 slice_bounds-encipher_under-end-2 c =

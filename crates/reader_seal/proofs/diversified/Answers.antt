@@ -10,13 +10,13 @@ use Rattle.reader_seal.proofs.diversified.Goals as goal
 pub slice_bounds-rows-end : goal.slice_bounds-rows-end
 slice_bounds-rows-end c =
     let long : length c.expand-rows.result ≡ 15 = search rules in
-    omega (arith, long, length_most (length c.args.fa_key.now) c.requires.1)
+    omega (arith, long, length_most (length c.args.fa_key.now) c.requires)
 
 pub slice_bounds-diversify-end : goal.slice_bounds-diversify-end
 slice_bounds-diversify-end c = let k = c.args.fa_key.now in sym (length-lent k c.expand-rows.ensures)
 
 pub diversify-d-requires : goal.diversify-d-requires
-diversify-d-requires c = (c.requires.0, c.requires.1, lent c.args.fa_key.now c.expand-rows.ensures)
+diversify-d-requires c = (c.requires, lent c.args.fa_key.now c.expand-rows.ensures)
 
 pub returns : goal.returns
 returns c = ap (λ r. r.value) c.diversify-d.ensures

@@ -57,7 +57,7 @@ pub diversified-derived-requires : goal.diversified-derived-requires
 diversified-derived-requires c =
     let e : length c.args.fa_key.bytes ≡ 32 = search rules in
     let s = seen c.in-Ok.ensures in
-    (c.byte_table-table.ensures, ap is_key_length (length-take-le _ _ (omega (arith, e, length_most _ s.length-one))) ∙ s.length-one)
+    ap is_key_length (length-take-le _ _ (omega (arith, e, length_most _ s.length-one))) ∙ s.length-one
 
 pub slice_bounds-derived-end : goal.slice_bounds-derived-end
 slice_bounds-derived-end c = search (rules, length_most _ (seen c.in-Ok.ensures).length-one)
@@ -86,7 +86,7 @@ write_command-requires c =
     let h = length_most _ s.length-one in
     let k = length-take-le c.args.l c.diversified-derived.result (search (rules, h)) in
     let lc = c.lc_of-lc.ensures in
-    (c.byte_table-table.ensures, rw k s.payload-most, rw k lc, omega (arith, lc, s.room-enough))
+    (rw k s.payload-most, rw k lc, omega (arith, lc, s.room-enough))
 
 pub of-keys_hash-requires : goal.of-keys_hash-requires
 of-keys_hash-requires c = taken-most c.args.l c.hashed-digest.result (length_most _ (seen c.in-Ok.ensures).length-one)

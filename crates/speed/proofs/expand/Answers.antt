@@ -10,7 +10,7 @@ pub bounds-w-last : goal.bounds-w-last
 bounds-w-last c = search (rules, length_most _ c.requires)
 
 pub expand-w-requires : goal.expand-w-requires
-expand-w-requires c = (c.byte_table-table.ensures, ap is_key_length c.loop.invariant ∙ c.requires)
+expand-w-requires c = ap is_key_length c.loop.invariant ∙ c.requires
 
 pub copy_at-requires : goal.copy_at-requires
 copy_at-requires c = search (rules, length-least _ c.requires, length_most _ c.requires)

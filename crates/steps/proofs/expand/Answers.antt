@@ -35,7 +35,7 @@ same key s {w} ew ea eb ed =
 pub slice_bounds-rows-end : goal.slice_bounds-rows-end
 slice_bounds-rows-end c =
     let long : length c.expand-rows.result ≡ 15 = search rules in
-    omega (arith, long, length_most (length c.args.key.now) c.requires.1)
+    omega (arith, long, length_most (length c.args.key.now) c.requires)
 
 pub slice_bounds-mix_rows-end : goal.slice_bounds-mix_rows-end
 slice_bounds-mix_rows-end c =
@@ -45,7 +45,7 @@ slice_bounds-mix_rows-end c =
 pub mix_rows-c-requires : goal.mix_rows-c-requires
 mix_rows-c-requires c =
     let k = c.args.key.now in
-    omega (arith, length-lent k c.expand-rows.ensures, length_most (length k) c.requires.1)
+    omega (arith, length-lent k c.expand-rows.ensures, length_most (length k) c.requires)
 
 pub returns : goal.returns
 returns c =

@@ -12,7 +12,7 @@ use Rattle.std.proofs.Common.{rules}
 use Rattle.reader_seal.proofs.Contents.write_command.Goals as goal
 
 pub overflow_cast-head : goal.overflow_cast-head
-overflow_cast-head c = search (rules, lc-most _ _ c.args.self.key_length c.requires.1)
+overflow_cast-head c = search (rules, lc-most _ _ c.args.self.key_length c.requires.0)
 
 pub returns : goal.returns
 returns c =
@@ -20,7 +20,7 @@ returns c =
     let s = a.self in
     let l : ℕ = length s.key.now in
     let d : List ℕ = sealed_data l s.key.now s.mode s.rnd2.now s.payload.now s.hash.now in
-    let long : length d ≡ a.lc = length-sealed_data l s.key.now s.mode s.rnd2.now s.payload.now s.hash.now ∙ sym c.requires.2 in
+    let long : length d ≡ a.lc = length-sealed_data l s.key.now s.mode s.rnd2.now s.payload.now s.hash.now ∙ sym c.requires.1 in
     let m : a.lc ≡ 5 + a.lc - 5 = omega arith in
     let w = c.write_data.ensures in
     command-writes

@@ -16,7 +16,7 @@ returns c =
     c.args.b.now
     s.rnd2_length
     s.hash_length
-    c.requires.1
+    c.requires
     c.write_str2.ensures
     c.pad.ensures.bytes
     c.encipher_under.ensures.1
