@@ -16,9 +16,8 @@ enum Fault {
 
 // Writes the answer to a line.
 fn say(rt: &impl Print, line: Line) -> Result<(), Fault> {
-    let mut out = [0u8; 512];
-    let k = door_answers::answer(line.kept(), line.length, &mut out);
-    rt.write_all(&out[..k]).map_err(|_| Fault::Output)
+    let text = door_answers::answer(line.kept(), line.length);
+    rt.write_all(text.as_slice()).map_err(|_| Fault::Output)
 }
 
 // The bytes that were read, after the line that those before them began: each line that ends among them is answered. The line that they begin.

@@ -1,179 +1,175 @@
 //! The answer of the program `door` to a line of its input (document 02, T-05): the line's other form, or its number and the reason in words.
 #![tactic(auto)]
 
-ghost use Rattle.std.specs.Prelude.{◌≡◌, ◌+◌, ◌*◌, ◌≤◌, min, length};
-ghost use Rattle.printing.specs.Printing.{Written};
+ghost use Rattle.std.specs.Prelude.{◌≡◌, ◌+◌, ◌*◌, ◌≤◌, ◌++◌, min, length};
 ghost use Rattle.door_answers.specs.Answer.{fault, wrong_length, apart, wiegand_text, uuid_text, in_hexadecimal, of_record, of_uuid_record, verdict, heading, answer};
 
+use printing::{MOST, Text};
+
 // The number of a line that is refused, and the reason. The number is that of `Converted`, a C struct (a).
-fn fault(out: &mut [u8], at: usize, number: u8, is_record: bool) -> usize
-    requires { at + 60 ≤ length out.old }
-    ensures written { Written out.old at (fault number is_record) result out.new }
-    ensures upper_bound { result ≤ at + 60 }
+fn fault(text: &mut Text, number: u8, is_record: bool)
+    requires { length text.old + 60 ≤ MOST }
+    ensures written { text.new ≡ text.old ++ fault number is_record }
+    ensures upper_bound { length text.new ≤ length text.old + 60 }
 {
     match number {
-        25 => printing::put(out, at, b": 25, a bad character"),
-        24 if is_record => {
-            printing::put(out, at, b": 24, wrong parity, or a bit set above the 26")
-        }
-        24 => printing::put(out, at, b": 24, wrong parity"),
-        _ => printing::put(out, at, b": 23, wrong length"),
+        25 => text.put(b": 25, a bad character"),
+        24 if is_record => text.put(b": 24, wrong parity, or a bit set above the 26"),
+        24 => text.put(b": 24, wrong parity"),
+        _ => text.put(b": 23, wrong length"),
     }
 }
 
 // The same of a line that is none of the four, by its length.
-fn wrong_length(out: &mut [u8], at: usize, n: usize) -> usize
-    requires { at + 100 ≤ length out.old }
-    ensures written { Written out.old at (wrong_length n) result out.new }
-    ensures upper_bound { result ≤ at + 100 }
+fn wrong_length(text: &mut Text, n: usize)
+    requires { length text.old + 100 ≤ MOST }
+    ensures written { text.new ≡ text.old ++ wrong_length n }
+    ensures upper_bound { length text.new ≤ length text.old + 100 }
 {
-    let a = printing::put(out, at, b": 23, wrong length: ");
+    text.put(b": 23, wrong length: ");
     // u64 has no From<usize> (d).
-    let b = printing::decimal(out, a, n as u64);
-    printing::put(
-        out,
-        b,
-        b" bytes, not 26 (Wiegand), 36 (UUID), 8 or 32 (a record)",
-    )
+    text.decimal(n as u64);
+    text.put(b" bytes, not 26 (Wiegand), 36 (UUID), 8 or 32 (a record)");
 }
 
 // Facility and number of a Wiegand number's record.
-fn apart(out: &mut [u8], at: usize, four: [u8; 4]) -> usize
-    requires { at + 60 ≤ length out.old }
-    ensures written { Written out.old at (apart four) result out.new }
-    ensures upper_bound { result ≤ at + 60 }
+fn apart(text: &mut Text, four: [u8; 4])
+    requires { length text.old + 60 ≤ MOST }
+    ensures written { text.new ≡ text.old ++ apart four }
+    ensures upper_bound { length text.new ≤ length text.old + 60 }
 {
-    let a = printing::put(out, at, b", facility ");
-    let b = printing::decimal(out, a, u64::from(wiegand_parts::facility(four)));
-    let c = printing::put(out, b, b", number ");
-    printing::decimal(out, c, u64::from(wiegand_parts::number(four)))
+    text.put(b", facility ");
+    text.decimal(u64::from(wiegand_parts::facility(four)));
+    text.put(b", number ");
+    text.decimal(u64::from(wiegand_parts::number(four)));
 }
 
 // A Wiegand number as text.
-fn wiegand_text(out: &mut [u8], at: usize, line: &[u8]) -> usize
-    requires { (length line.now ≡ 26) × (at + 100 ≤ length out.old) }
-    ensures written { Written out.old at (wiegand_text line.now) result out.new }
-    ensures upper_bound { result ≤ at + 100 }
+fn wiegand_text(text: &mut Text, line: &[u8])
+    requires { (length line.now ≡ 26) × (length text.old + 100 ≤ MOST) }
+    ensures written { text.new ≡ text.old ++ wiegand_text line.now }
+    ensures upper_bound { length text.new ≤ length text.old + 100 }
 {
     let mut record = [0u8; 4];
     let made = wiegand::to_record(line, &mut record);
     if made.number != 0 {
-        return fault(out, at, made.number, false);
+        return fault(text, made.number, false);
     }
-    let a = printing::put(out, at, b" = record ");
-    let b = printing::hex(out, a, &record);
-    apart(out, b, record)
+    text.put(b" = record ");
+    text.hex(&record);
+    apart(text, record);
 }
 
 // A Wiegand number's record.
-fn of_record(out: &mut [u8], at: usize, four: [u8; 4]) -> usize
-    requires { at + 100 ≤ length out.old }
-    ensures written { Written out.old at (of_record four) result out.new }
-    ensures upper_bound { result ≤ at + 100 }
+fn of_record(text: &mut Text, four: [u8; 4])
+    requires { length text.old + 100 ≤ MOST }
+    ensures written { text.new ≡ text.old ++ of_record four }
+    ensures upper_bound { length text.new ≤ length text.old + 100 }
 {
     let mut other = [0u8; 26];
     let made = wiegand::to_text(&four, &mut other);
     if made.number != 0 {
-        return fault(out, at, made.number, true);
+        return fault(text, made.number, true);
     }
-    let a = printing::put(out, at, b" = Wiegand ");
-    let b = printing::put(out, a, &other);
-    apart(out, b, four)
+    text.put(b" = Wiegand ");
+    text.put(&other);
+    apart(text, four);
 }
 
 // The same in hexadecimal.
-fn wiegand_record(out: &mut [u8], at: usize, line: &[u8]) -> usize
-    requires { (length line.now ≡ 8) × (at + 100 ≤ length out.old) }
-    ensures written { Written out.old at (in_hexadecimal line.now of_record) result out.new }
-    ensures upper_bound { result ≤ at + 100 }
+fn wiegand_record(text: &mut Text, line: &[u8])
+    requires { (length line.now ≡ 8) × (length text.old + 100 ≤ MOST) }
+    ensures written { text.new ≡ text.old ++ in_hexadecimal line.now of_record }
+    ensures upper_bound { length text.new ≤ length text.old + 100 }
 {
     if !hexadecimal::are_digits(line) {
-        return fault(out, at, 25, true);
+        return fault(text, 25, true);
     }
     let mut four = [0u8; 4];
     hexadecimal::read_digits(line, &mut four, 0);
-    of_record(out, at, four)
+    of_record(text, four);
 }
 
 // A UUID as text.
-fn uuid_text(out: &mut [u8], at: usize, line: &[u8]) -> usize
-    requires { (length line.now ≡ 36) × (at + 100 ≤ length out.old) }
-    ensures written { Written out.old at (uuid_text line.now) result out.new }
-    ensures upper_bound { result ≤ at + 100 }
+fn uuid_text(text: &mut Text, line: &[u8])
+    requires { (length line.now ≡ 36) × (length text.old + 100 ≤ MOST) }
+    ensures written { text.new ≡ text.old ++ uuid_text line.now }
+    ensures upper_bound { length text.new ≤ length text.old + 100 }
 {
     let mut record = [0u8; 16];
     let made = uuids::to_record(line, &mut record);
     if made.number != 0 {
-        return fault(out, at, made.number, false);
+        return fault(text, made.number, false);
     }
-    let a = printing::put(out, at, b" = record ");
-    printing::hex(out, a, &record)
+    text.put(b" = record ");
+    text.hex(&record);
 }
 
 // A UUID's record.
-fn of_uuid_record(out: &mut [u8], at: usize, sixteen: [u8; 16]) -> usize
-    requires { at + 100 ≤ length out.old }
-    ensures written { Written out.old at (of_uuid_record sixteen) result out.new }
-    ensures upper_bound { result ≤ at + 100 }
+fn of_uuid_record(text: &mut Text, sixteen: [u8; 16])
+    requires { length text.old + 100 ≤ MOST }
+    ensures written { text.new ≡ text.old ++ of_uuid_record sixteen }
+    ensures upper_bound { length text.new ≤ length text.old + 100 }
 {
     let mut other = [0u8; 36];
     let made = uuids::to_text(&sixteen, &mut other);
     if made.number != 0 {
-        return fault(out, at, made.number, true);
+        return fault(text, made.number, true);
     }
-    let a = printing::put(out, at, b" = UUID ");
-    printing::put(out, a, &other)
+    text.put(b" = UUID ");
+    text.put(&other);
 }
 
 // The same in hexadecimal.
-fn uuid_record(out: &mut [u8], at: usize, line: &[u8]) -> usize
-    requires { (length line.now ≡ 32) × (at + 100 ≤ length out.old) }
-    ensures written { Written out.old at (in_hexadecimal line.now of_uuid_record) result out.new }
-    ensures upper_bound { result ≤ at + 100 }
+fn uuid_record(text: &mut Text, line: &[u8])
+    requires { (length line.now ≡ 32) × (length text.old + 100 ≤ MOST) }
+    ensures written { text.new ≡ text.old ++ in_hexadecimal line.now of_uuid_record }
+    ensures upper_bound { length text.new ≤ length text.old + 100 }
 {
     if !hexadecimal::are_digits(line) {
-        return fault(out, at, 25, true);
+        return fault(text, 25, true);
     }
     let mut sixteen = [0u8; 16];
     hexadecimal::read_digits(line, &mut sixteen, 0);
-    of_uuid_record(out, at, sixteen)
+    of_uuid_record(text, sixteen);
 }
 
 // What follows the line that is shown: its other form, or why it has none. `start` has the line's first bytes.
-fn verdict(out: &mut [u8], at: usize, start: &[u8], n: usize) -> usize
-    requires { (length start.now ≡ min n 40) × (at + 100 ≤ length out.old) }
-    ensures written { Written out.old at (verdict start.now n) result out.new }
-    ensures upper_bound { result ≤ at + 100 }
+fn verdict(text: &mut Text, start: &[u8], n: usize)
+    requires { (length start.now ≡ min n 40) × (length text.old + 100 ≤ MOST) }
+    ensures written { text.new ≡ text.old ++ verdict start.now n }
+    ensures upper_bound { length text.new ≤ length text.old + 100 }
 {
     match n {
-        26 => wiegand_text(out, at, start),
-        36 => uuid_text(out, at, start),
-        8 => wiegand_record(out, at, start),
-        32 => uuid_record(out, at, start),
-        _ => wrong_length(out, at, n),
+        26 => wiegand_text(text, start),
+        36 => uuid_text(text, start),
+        8 => wiegand_record(text, start),
+        32 => uuid_record(text, start),
+        _ => wrong_length(text, n),
     }
 }
 
 // The line as it is shown: whole, or its first bytes and two dots.
-fn heading(out: &mut [u8], start: &[u8], n: usize) -> usize
-    requires { 4 * length start.now + 2 ≤ length out.old }
-    ensures written { Written out.old 0 (heading start.now n) result out.new }
-    ensures upper_bound { result ≤ 4 * length start.now + 2 }
+fn heading(text: &mut Text, start: &[u8], n: usize)
+    requires { length text.old + 4 * length start.now + 2 ≤ MOST }
+    ensures written { text.new ≡ text.old ++ heading start.now n }
+    ensures upper_bound { length text.new ≤ length text.old + 4 * length start.now + 2 }
 {
-    let a = printing::shown(out, 0, start);
+    text.shown(start);
     if start.len() < n {
-        return printing::put(out, a, b"..");
+        text.put(b"..");
     }
-    a
 }
 
-// The answer to a line of n bytes, over the start of the output; its length. `start` has the line's first bytes, forty of a longer one.
-pub fn answer(start: &[u8], n: usize, out: &mut [u8]) -> usize
-    requires { (length start.now ≡ min n 40) × (300 ≤ length out.old) }
-    ensures written { Written out.old 0 (answer start.now n) result out.new }
-    ensures upper_bound { result ≤ 300 }
+// The answer to a line of n bytes. `start` has the line's first bytes, forty of a longer one.
+pub fn answer(start: &[u8], n: usize) -> Text
+    requires { length start.now ≡ min n 40 }
+    ensures written { result ≡ answer start.now n }
+    ensures upper_bound { length result ≤ 300 }
 {
-    let a = heading(out, start, n);
-    let b = verdict(out, a, start, n);
-    printing::put(out, b, b"\n")
+    let mut text = Text::new();
+    heading(&mut text, start, n);
+    verdict(&mut text, start, n);
+    text.put(b"\n");
+    text
 }

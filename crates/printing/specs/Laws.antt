@@ -1,6 +1,6 @@
 -- Laws of what is written: one text behind another, a number's digits, the bytes that are shown. Assumes nothing.
-use Rattle.std.specs.Prelude.{◌≡◌, refl, Bool, true, false, List, [], ◌∷◌, ◌++◌, ℕ, zero, suc, ◌+◌, ◌-◌, ◌/◌, ◌%◌, ◌^◌, ◌<◌, ◌≤◌, ltb, length, get_or, take}
-use Rattle.std.proofs.Common.{sym, ap, ap₂, ◌∙◌, subst, append-nil, append_assoc, pow-suc, add-one, arith, lt-ltb, le-ltb, ltb-true, ltb-false, length-append, take-suc}
+use Rattle.std.specs.Prelude.{◌≡◌, refl, Bool, true, false, List, [], ◌∷◌, ◌++◌, ℕ, zero, suc, ◌+◌, ◌-◌, ◌/◌, ◌%◌, ◌^◌, ◌<◌, ◌≤◌, ltb, length, get_or, take, drop}
+use Rattle.std.proofs.Common.{sym, ap, ap₂, ◌∙◌, subst, append-nil, append_assoc, pow-suc, add-one, arith, lt-ltb, le-ltb, ltb-true, ltb-false, length-append, length-take-le, take_at, take-suc}
 use Rattle.std.proofs.Math.Path.{subst⁻¹}
 use Rattle.std.proofs.Math.Nat.{one-le-pow, pow-le-pow_right}
 use Rattle.octets.specs.Lists.{over, cons, over_none}
@@ -8,6 +8,25 @@ use Rattle.octets.specs.Writes.{over-next}
 use Rattle.hexadecimal.specs.Hexadecimal.{digits_of}
 use Rattle.io.specs.Digits.{last_digits, hex_digit_ascii, IsDigitCount}
 use Rattle.printing.specs.Printing.{ascii, Written, decimals, is_plain, shown_byte, shown}
+
+-- s is written over d from place `at` on: what stands before its end
+pub take-over-end : (d s : List ℕ) (at : ℕ) → at ≤ length d → take (at + length s) (over d at s) ≡ take at d ++ s
+unfolding over
+take-over-end d s at h =
+    let e = length-append (take at d) s ∙ ap (λ (n : ℕ). n + length s) (length-take-le at d h) in
+    take_at (take at d ++ s) (drop (at + length s) d) (at + length s) e
+
+-- a text v that is t and then a, with b after it
+pub then : (t a b : List ℕ) {v w : List ℕ} → v ≡ t ++ a → w ≡ v ++ b → w ≡ t ++ (a ++ b)
+then t a b p q = q ∙ ap (λ (l : List ℕ). l ++ b) p ∙ append_assoc t a b
+
+-- the same text by another name
+pub then_as : (t : List ℕ) {s s' w : List ℕ} → s ≡ s' → w ≡ t ++ s → w ≡ t ++ s'
+then_as t e q = q ∙ ap (λ (l : List ℕ). t ++ l) e
+
+-- how long a text is with s at its end
+pub length-then : (t s : List ℕ) {w : List ℕ} → w ≡ t ++ s → length w ≡ length t + length s
+length-then t s e = ap length e ∙ length-append t s
 
 -- t is written behind s
 pub written_next : (out : List ℕ) (at : ℕ) (s t : List ℕ) {a b : ℕ} {e f : List ℕ} → at ≤ length out → Written out at s a e → Written e a t b f → Written out at (s ++ t) b f

@@ -1,39 +1,106 @@
-//! Text written over an output from a place on: words, numbers, bytes of an input as they are shown. Each function returns the place after what it
-//! wrote.
+//! Text that a program writes, one part after another: words, numbers, bytes of an input as they are shown.
 #![tactic(auto)]
 
-ghost use Rattle.std.specs.Prelude.{◌≡◌, ◌+◌, ◌*◌, ◌≤◌, length};
+ghost use Rattle.std.specs.Prelude.{◌≡◌, ◌+◌, ◌*◌, ◌≤◌, [], ◌++◌, length};
 ghost use Rattle.hexadecimal.specs.Hexadecimal.{digits_of};
-ghost use Rattle.printing.specs.Printing.{Written, decimal, is_plain, shown_byte, shown};
+ghost use Rattle.printing.specs.Printing.{decimal, is_plain, shown_byte, shown};
 
-// A text.
-pub fn put(out: &mut [u8], at: usize, text: &[u8]) -> usize
-    requires { at + length text.now ≤ length out.old }
-    ensures { Written out.old at text.now result out.new }
-{
-    octets::copy_at(out, at, text);
-    at + text.len()
+use std::marker::Model;
+
+// How many bytes a text has room for.
+pub const MOST: usize = 512;
+
+// Text as it is written: a clause sees the bytes that are written. Fixed memory (a).
+#[derive(Drop)]
+pub struct Text {
+    bytes: [u8; 512],
+    length: usize,
 }
 
-// Bytes in hexadecimal.
-pub fn hex(out: &mut [u8], at: usize, bytes: &[u8]) -> usize
-    requires { at + 2 * length bytes.now ≤ length out.old }
-    ensures written { Written out.old at (digits_of bytes.now) result out.new }
-    ensures value { result ≡ at + 2 * length bytes.now }
-{
-    hexadecimal::write_digits(bytes, out, at);
-    at + 2 * bytes.len()
+impl Model for Text {
+    ghost use Rattle.std.specs.Prelude.{List, ℕ, ◌≤◌, take};
+
+    ghost Value = { List ℕ };
+
+    ghost view = { λ t. take t.length t.bytes };
+
+    ghost invariant = { λ t. t.length ≤ 512 };
 }
 
-// A number in decimal.
-pub fn decimal(out: &mut [u8], at: usize, n: u64) -> usize
-    requires { at + 20 ≤ length out.old }
-    ensures written { Written out.old at (decimal n) result out.new }
-    ensures upper_bound { result ≤ at + 20 }
-{
-    let mut digits = [0u8; 20];
-    let k = io::decimal(n, &mut digits);
-    put(out, at, &digits[..k])
+impl Text {
+    // The text with no byte.
+    pub fn new() -> Text
+        ensures { result ≡ [] }
+    {
+        Text {
+            bytes: [0; 512],
+            length: 0,
+        }
+    }
+
+    // The bytes that are written.
+    pub fn as_slice(&self) -> &[u8]
+        ensures { result.now ≡ self.now }
+    {
+        &self.bytes[..self.length]
+    }
+
+    // Bytes as they are.
+    pub fn put(&mut self, text: &[u8])
+        requires { length self.old + length text.now ≤ MOST }
+        ensures { self.new ≡ self.old ++ text.now }
+    {
+        octets::copy_at(&mut self.bytes, self.length, text);
+        self.length += text.len();
+    }
+
+    // Bytes in hexadecimal.
+    pub fn hex(&mut self, bytes: &[u8])
+        requires { length self.old + 2 * length bytes.now ≤ MOST }
+        ensures written { self.new ≡ self.old ++ digits_of bytes.now }
+        ensures value { length self.new ≡ length self.old + 2 * length bytes.now }
+    {
+        hexadecimal::write_digits(bytes, &mut self.bytes, self.length);
+        self.length += 2 * bytes.len();
+    }
+
+    // A number in decimal.
+    pub fn decimal(&mut self, n: u64)
+        requires { length self.old + 20 ≤ MOST }
+        ensures written { self.new ≡ self.old ++ decimal n }
+        ensures upper_bound { length self.new ≤ length self.old + 20 }
+    {
+        let mut digits = [0u8; 20];
+        let k = io::decimal(n, &mut digits);
+        self.put(&digits[..k]);
+    }
+
+    // A byte of the input. One that is not shown as it is is written \xNN, so that no byte of the input reaches a terminal as a command, what is
+    // shown is one word, and it tells which byte it was.
+    fn byte(&mut self, b: u8)
+        requires { length self.old + 4 ≤ MOST }
+        ensures written { self.new ≡ self.old ++ shown_byte b }
+        ensures upper_bound { length self.new ≤ length self.old + 4 }
+    {
+        let one = [b];
+        if is_plain(b) {
+            self.put(&one);
+        } else {
+            self.put(b"\\x");
+            self.hex(&one);
+        }
+    }
+
+    // Bytes of the input.
+    pub fn shown(&mut self, bytes: &[u8])
+        requires { length self.old + 4 * length bytes.now ≤ MOST }
+        ensures written { self.new ≡ self.old ++ shown bytes.now }
+        ensures upper_bound { length self.new ≤ length self.old + 4 * length bytes.now }
+    {
+        for b in bytes {
+            self.byte(*b);
+        }
+    }
 }
 
 // Whether a byte is shown as it is: the printable characters of ASCII, but for the space and the backslash.
@@ -42,32 +109,4 @@ fn is_plain(b: u8) -> bool
     ensures { result ≡ is_plain b }
 {
     b.is_ascii_graphic() && b != b'\\'
-}
-
-// A byte of the input. One that is not shown as it is is written \xNN, so that no byte of the input reaches a terminal as a command, what is
-// shown is one word, and it tells which byte it was.
-fn byte(out: &mut [u8], at: usize, b: u8) -> usize
-    requires { at + 4 ≤ length out.old }
-    ensures written { Written out.old at (shown_byte b) result out.new }
-    ensures upper_bound { result ≤ at + 4 }
-{
-    let one = [b];
-    if is_plain(b) {
-        return put(out, at, &one);
-    }
-    let behind = put(out, at, b"\\x");
-    hex(out, behind, &one)
-}
-
-// Bytes of the input.
-pub fn shown(out: &mut [u8], at: usize, bytes: &[u8]) -> usize
-    requires { at + 4 * length bytes.now ≤ length out.old }
-    ensures written { Written out.old at (shown bytes.now) result out.new }
-    ensures upper_bound { result ≤ at + 4 * length bytes.now }
-{
-    let mut to = at;
-    for b in bytes {
-        to = byte(out, to, *b);
-    }
-    to
 }

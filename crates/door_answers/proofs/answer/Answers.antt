@@ -1,14 +1,11 @@
--- `answer` meets its contract: its three parts, one behind the other. Assumes nothing.
-use native.Mathlib.Omega.{arith}
-use Rattle.printing.specs.Laws.{written_next}
-use Rattle.door_answers.specs.Answer.{answer}
-use Rattle.std.proofs.Common.{rules}
+-- `answer` meets its contract: its three parts, one after the other. Assumes nothing.
+use Rattle.std.proofs.Common.{List, [], ◌++◌, ℕ, ap, ◌∙◌}
+use Rattle.printing.specs.Laws.{then}
+use Rattle.door_answers.specs.Answer.{heading, answer}
 use Rattle.door_answers.proofs.answer.Goals as goal
 
-pub returns : goal.returns
+pub returns-clause-written : goal.returns-clause-written
 unfolding answer
-returns c =
-    let a = c.args in
-    let shown = c.heading-a.ensures in
-    let two = written_next a.out.now 0 _ _ (omega arith) shown.written c.verdict-b.ensures.written in
-    record { written = written_next a.out.now 0 _ _ (omega arith) two c.put.ensures; upper_bound = search rules }
+returns-clause-written c =
+    let shown = c.heading.ensures.written ∙ ap (λ (l : List ℕ). l ++ heading c.args.start.now c.args.n) c.new-text.ensures in
+    then [] _ _ (then [] _ _ shown c.verdict.ensures.written) c.put.ensures

@@ -1,17 +1,14 @@
 -- `heading` meets its contract. Assumes nothing.
-use native.Mathlib.Omega.{arith}
-use Rattle.printing.specs.Laws.{written_as, written_next}
+use Rattle.printing.specs.Laws.{then, then_as}
 use Rattle.door_answers.specs.Ways.{heading-cut, heading-whole}
-use Rattle.std.proofs.Common.{rules}
 use Rattle.door_answers.proofs.heading.Goals as goal
 
-pub returns-then-start-n : goal.returns-then-start-n
-returns-then-start-n c =
+pub returns-then-start-n-clause-written : goal.returns-then-start-n-clause-written
+returns-then-start-n-clause-written c =
     let a = c.args in
-    let two = written_next a.out.now 0 _ _ (omega arith) c.shown-a.ensures.written c.put.ensures in
-    record { written = written_as a.out.now 0 (heading-cut a.start.now a.n c.if-start-n.true) two; upper_bound = search rules }
+    then_as a.text.now (heading-cut a.start.now a.n c.if-start-n.true) (then a.text.now _ _ c.shown.ensures.written c.put.ensures)
 
-pub returns : goal.returns
-returns c =
+pub returns-else-start-n-clause-written : goal.returns-else-start-n-clause-written
+returns-else-start-n-clause-written c =
     let a = c.args in
-    record { written = written_as a.out.now 0 (heading-whole a.start.now a.n c.if-start-n.false) c.shown-a.ensures.written; upper_bound = search rules }
+    then_as a.text.now (heading-whole a.start.now a.n c.if-start-n.false) c.shown.ensures.written

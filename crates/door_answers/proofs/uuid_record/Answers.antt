@@ -8,27 +8,26 @@ use Rattle.conversion.specs.Conversion.{each}
 use Rattle.hexadecimal.specs.Hexadecimal.{is_digit, octets_of}
 use Rattle.hexadecimal.specs.Laws.{length-octets}
 use Rattle.door_answers.specs.Answer.{of_uuid_record}
-use Rattle.printing.specs.Laws.{written_as}
+use Rattle.printing.specs.Laws.{then_as}
 use Rattle.conversion.specs.Answers.{over-all}
 use Rattle.door_answers.specs.Ways.{hexadecimal-fault, hexadecimal-read}
-use Rattle.std.proofs.Common.{rules}
 use Rattle.door_answers.proofs.uuid_record.Goals as goal
 
-pub returns-then-not-are_digits : goal.returns-then-not-are_digits
-returns-then-not-are_digits c =
+pub returns-then-not-are_digits-clause-written : goal.returns-then-not-are_digits-clause-written
+returns-then-not-are_digits-clause-written c =
     let a = c.args in
     let digits : each is_digit a.line.now ≡ false = sym c.are_digits.ensures ∙ c.if-not-are_digits.true in
-    record { written = written_as a.out.now a.at (hexadecimal-fault a.line.now of_uuid_record digits) c.fault.ensures.written; upper_bound = search rules }
+    then_as a.text.now (hexadecimal-fault a.line.now of_uuid_record digits) c.fault.ensures.written
 
 pub read_digits-requires : goal.read_digits-requires
 read_digits-requires c =
     let digits : each is_digit c.args.line.now ≡ true = sym c.are_digits.ensures ∙ c.if-not-are_digits.false in
     (digits, omega (arith, length-octets c.args.line.now, c.requires.0))
 
-pub returns : goal.returns
-returns c =
+pub returns-clause-written : goal.returns-clause-written
+returns-clause-written c =
     let a = c.args in
     let digits : each is_digit a.line.now ≡ true = sym c.are_digits.ensures ∙ c.if-not-are_digits.false in
     let long : 16 ≤ length (octets_of a.line.now) = omega (arith, length-octets a.line.now, c.requires.0) in
     let read = c.read_digits.ensures ∙ over-all (replicate 16 0) (octets_of a.line.now) long in
-    record { written = written_as a.out.now a.at (ap of_uuid_record read ∙ hexadecimal-read a.line.now of_uuid_record digits) c.of_uuid_record.ensures.written; upper_bound = search rules }
+    then_as a.text.now (ap of_uuid_record read ∙ hexadecimal-read a.line.now of_uuid_record digits) c.of_uuid_record.ensures.written

@@ -10,26 +10,25 @@ use Rattle.uuids.specs.Uuid.{text_number, record_of}
 use Rattle.uuids.specs.Groups.{length-record}
 use Rattle.printing.specs.Printing.{ascii}
 use Rattle.door_answers.specs.Answer.{uuid_text}
-use Rattle.printing.specs.Laws.{written_as, written_next}
+use Rattle.printing.specs.Laws.{then, then_as}
 use Rattle.door_answers.specs.Ways.{number-told, result-fault, result-made, output-made}
-use Rattle.std.proofs.Common.{rules}
 use Rattle.door_answers.proofs.uuid_text.Goals as goal
 
-pub returns-then-made-ne0 : goal.returns-then-made-ne0
+pub returns-then-made-ne0-clause-written : goal.returns-then-made-ne0-clause-written
 unfolding uuid_text
-returns-then-made-ne0 c =
+returns-then-made-ne0-clause-written c =
     let a = c.args in
     let told = number-told (text_number a.line.now 16) (record_of a.line.now) c.to_record-made.ensures.value in
-    record { written = written_as a.out.now a.at (result-fault (text_number a.line.now 16) _ false told c.if-made-ne0.true) c.fault.ensures.written; upper_bound = search rules }
+    then_as a.text.now (result-fault (text_number a.line.now 16) _ false told c.if-made-ne0.true) c.fault.ensures.written
 
-pub returns : goal.returns
+pub returns-clause-written : goal.returns-clause-written
 unfolding uuid_text
-returns c =
+returns-clause-written c =
     let a = c.args in
     let t = a.line.now in
     let got = c.to_record-made in
     let told = number-told (text_number t 16) (record_of t) got.ensures.value in
     let long = length-record t c.requires.0 in
     let made = output-made (text_number t 16) (record_of t) (replicate 16 0) told c.if-made-ne0.false (omega (arith, long)) got.ensures.out_after in
-    let two = written_next a.out.now a.at _ _ (search rules) c.put-a.ensures c.hex.ensures.written in
-    record { written = written_as a.out.now a.at (ap (λ (r : List ℕ). ascii " = record " ++ digits_of r) made ∙ result-made (text_number t 16) _ false told c.if-made-ne0.false) two; upper_bound = search rules }
+    let two = then a.text.now _ _ c.put.ensures c.hex.ensures.written in
+    then_as a.text.now (ap (λ (r : List ℕ). ascii " = record " ++ digits_of r) made ∙ result-made (text_number t 16) _ false told c.if-made-ne0.false) two

@@ -1,13 +1,10 @@
--- `wrong_length` meets its contract: its three parts, one behind the other. Assumes nothing.
+-- `wrong_length` meets its contract: its three parts, one after the other. Assumes nothing.
 use Rattle.door_answers.specs.Answer.{wrong_length}
-use Rattle.printing.specs.Laws.{written_next}
-use Rattle.std.proofs.Common.{rules}
+use Rattle.printing.specs.Laws.{then}
 use Rattle.door_answers.proofs.wrong_length.Goals as goal
 
-pub returns : goal.returns
+pub returns-clause-written : goal.returns-clause-written
 unfolding wrong_length
-returns c =
-    let a = c.args in
-    let first = c.put-a.ensures in
-    let second = written_next a.out.now a.at _ _ (search rules) first c.decimal-b.ensures.written in
-    record { written = written_next a.out.now a.at _ _ (search rules) second c.put.ensures; upper_bound = search rules }
+returns-clause-written c =
+    let t = c.args.text.now in
+    then t _ _ (then t _ _ c.put.ensures c.decimal.ensures.written) c.put-2.ensures
