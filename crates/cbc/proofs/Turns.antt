@@ -8,7 +8,11 @@ use lib.ListN.{length, take, drop, length-append, length-drop, take-append-drop}
 use lib.Seq.{take_at, drop_at, drop-drop, length-take-le}
 use Rattle.octets.specs.Lists.{part, over}
 use Rattle.work.specs.declared.Made.{Made}
-use Rattle.work.specs.Steps.{bytes_of, mixed_all, sum_from, decipherment, encipherment}
+use Rattle.work.specs.Steps.{bytes_of, mixed_all, sum_from}
+use Rattle.aes.specs.Aes.{cipher_by, inv_cipher_by}
+use Rattle.cbc.specs.declared.Way.{Way}
+use Rattle.cbc.specs.declared.Way.TheVariants.{Encipher, Decipher}
+use Rattle.cbc.specs.Ways.{kind_of, next, step_of, steps_of}
 use Rattle.cbc.specs.Cbc.{◌⊕◌}
 use Rattle.cbc.specs.Steps.{encipher_step, decipher_step, enciphered, deciphered, made}
 use Rattle.cbc.specs.Chain.{whole, whole-more, whole-none}
@@ -43,14 +47,14 @@ module _ (text y text' : List ℕ) (at at' : ℕ) (fits : at + 16 ≤ length tex
       ∙ e
 
   module _ (key : List ℕ) (f : List ℕ → List ℕ) (n j j' sum sum' all : ℕ) (h : j < n) (one : j' ≡ j + 1) where
-    pub enciphered-turn : (c c' x : List ℕ) → x ≡ part text at 16 ⊕ c → c' ≡ f x → sum' ≡ mixed_all sum (bytes_of (encipher_step key f x)) →
+    enciphered-turn : (c c' x : List ℕ) → x ≡ part text at 16 ⊕ c → c' ≡ f x → sum' ≡ mixed_all sum (bytes_of (encipher_step key f x)) →
         sum_from sum (enciphered key f c (n - j) (drop at text)) ≡ all → sum_from sum' (enciphered key f c' (n - j') (drop at' text')) ≡ all
     unfolding enciphered part
     enciphered-turn c c' x p q r e =
         let m : n - j ≡ suc (n - j') = omega arith in
         rw (behind, r, q, p) (rw m at e)
 
-    pub deciphered-turn : (x : List ℕ) → x ≡ part text at 16 → sum' ≡ mixed_all sum (bytes_of (decipher_step key f x)) →
+    deciphered-turn : (x : List ℕ) → x ≡ part text at 16 → sum' ≡ mixed_all sum (bytes_of (decipher_step key f x)) →
         sum_from sum (deciphered key f (n - j) (drop at text)) ≡ all → sum_from sum' (deciphered key f (n - j') (drop at' text')) ≡ all
     unfolding deciphered part
     deciphered-turn x p r e =
@@ -68,17 +72,23 @@ text-done out next c text all at h e =
 told : {n m s t : ℕ} → n ≡ m → s ≡ t → ◌≡◌ {A = Made ⊤} (record { value = tt; count = n; sum = s }) (record { value = tt; count = m; sum = t })
 told p q = rw (p, q)
 
+-- a turn of either way
+module _ (text y text' : List ℕ) (at at' : ℕ) (fits : at + 16 ≤ length text) (long : length y ≡ 16) (further : at' ≡ at + 16) (written : text' ≡ over text at y)
+    (key : List ℕ) (w : List (List ℕ)) (n j j' sum sum' all : ℕ) (h : j < n) (one : j' ≡ j + 1) where
+  pub steps-turn : (v : Way) (c c' b : List ℕ) → b ≡ part text at 16 → c' ≡ next v w c b → sum' ≡ mixed_all sum (bytes_of (step_of v key w c b)) →
+      sum_from sum (steps_of v key w c (n - j) (drop at text)) ≡ all → sum_from sum' (steps_of v key w c' (n - j') (drop at' text')) ≡ all
+  steps-turn (Encipher t) c c' b p q r e =
+      enciphered-turn text y text' at at' fits long further written key (cipher_by w) n j j' sum sum' all h one c c' (b ⊕ c) (ap (λ (x : List ℕ). x ⊕ c) p) q r e
+  steps-turn (Decipher t) c c' b p q r e =
+      deciphered-turn text y text' at at' fits long further written key (inv_cipher_by w) n j j' sum sum' all h one b p r e
+
 -- all n steps made: how many they are, and the work sum
-module _ (key : List ℕ) (f : List ℕ → List ℕ) (text text₀ : List ℕ) (n j count sum sum₀ : ℕ) (all_made : j ≡ n) (counted_all : count ≡ n) where
+module _ (key : List ℕ) (w : List (List ℕ)) (text text₀ : List ℕ) (n j sum sum₀ : ℕ) (all_made : j ≡ n) where
   none_left : n - j ≡ 0
   none_left = omega arith
 
-  pub enciphered-done : (c c₀ : List ℕ) → sum_from sum (enciphered key f c (n - j) text) ≡ sum_from sum₀ (enciphered key f c₀ n text₀) →
-      ◌≡◌ {A = Made ⊤} (record { value = tt; count = count; sum = sum }) (made encipherment sum₀ (enciphered key f c₀ n text₀))
-  unfolding enciphered
-  enciphered-done c c₀ e = told (counted_all ∙ sym (counted-enciphered key f n c₀ text₀)) (rw none_left at e)
-
-  pub deciphered-done : sum_from sum (deciphered key f (n - j) text) ≡ sum_from sum₀ (deciphered key f n text₀) →
-      ◌≡◌ {A = Made ⊤} (record { value = tt; count = count; sum = sum }) (made decipherment sum₀ (deciphered key f n text₀))
-  unfolding deciphered
-  deciphered-done e = told (counted_all ∙ sym (counted-deciphered key f n text₀)) (rw none_left at e)
+  pub steps-done : (v : Way) (c c₀ : List ℕ) → sum_from sum (steps_of v key w c (n - j) text) ≡ sum_from sum₀ (steps_of v key w c₀ n text₀) →
+      ◌≡◌ {A = Made ⊤} (record { value = tt; count = n; sum = sum }) (made (kind_of v) sum₀ (steps_of v key w c₀ n text₀))
+  unfolding enciphered deciphered
+  steps-done (Encipher t) c c₀ e = told (sym (counted-enciphered key (cipher_by w) n c₀ text₀)) (rw none_left at e)
+  steps-done (Decipher t) c c₀ e = told (sym (counted-deciphered key (inv_cipher_by w) n text₀)) (rw none_left at e)

@@ -4,3 +4,4 @@ pub mod Chain
 pub mod Laws
 pub mod Aes
 pub mod Lengths
+pub mod Ways

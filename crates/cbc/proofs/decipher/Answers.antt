@@ -1,57 +1,10 @@
--- `decipher` meets its contract. What is done of the text and what is left to do make the same whole (Turns). Assumes nothing.
-use Prim.Native.Nat.{◌+◌, ◌*◌, ◌/◌, ◌≤◌}
-use mathlib.Core.Path.{◌≡◌, refl, ap, sym, ◌∙◌}
-use native.Mathlib.Nat.{sub-zero}
-use native.Mathlib.Omega.{arith}
-use lib.ListN.{length}
+-- `decipher` meets its contract, by that of `chain`. Assumes nothing.
+use mathlib.Core.Path.{sym, ◌∙◌}
 use Rattle.aes.specs.Aes.{inv_cipher_by}
-use Rattle.work.specs.Weights.{prepared-step}
-use Rattle.cbc.specs.Cbc.{◌⊕◌}
-use Rattle.cbc.specs.Steps.{decipher_step}
-use Rattle.cbc.specs.Laws.{unlink, taken, decrypted-whole}
-use Rattle.cbc.proofs.Turns.{text-turn, deciphered-turn, text-done, deciphered-done}
-use Rattle.std.proofs.Common.{rules}
+use Rattle.cbc.specs.Laws.{decrypted-whole}
 use Rattle.cbc.proofs.decipher.Goals as goal
-
-pub loop-n-init : goal.loop-n-init
-loop-n-init c = (refl, search rules, refl, simp sub-zero)
-
-pub copy_at-requires : goal.copy_at-requires
-copy_at-requires c =
-    let step = c.decipher_block-step in
-    let long : length step.result.value ≡ 16 = search (rules, step.type_inv) in
-    omega arith
-
-pub loop-n-preserved : goal.loop-n-preserved
-loop-n-preserved c =
-    let q = c.loop-n.invariant in
-    let a = c.args in
-    let f = inv_cipher_by a.w.now in
-    let summed = prepared-step c.loop-n.after (decipher_step a.key.now f c.block_at-cipher.result) c.prepare-shown.ensures in
-    let step = c.decipher_block-step in
-    let x = c.block_at-cipher.ensures in
-    let y = step.ensures.0 ∙ ap (λ z. f z ⊕ c.loop-n.previous) x in
-    let long : length step.result.value ≡ 16 = search (rules, step.type_inv) in
-    let text = c.loop-n.text in
-    let now = c.copy_at.new.d in
-    let put = c.copy_at.ensures in
-    let at = 16 * c.loop-n.n in
-    let further : 16 * (c.loop-n.n + 1) ≡ at + 16 = omega arith in
-    let fits : at + 16 ≤ length text = omega arith in (
-      omega arith,
-      omega arith,
-      text-turn text _ now at _ fits long further put (unlink f) taken _ _ _ y x q.2,
-      deciphered-turn text _ now at _ fits long further put _ f _ _ _ _ _ _ c.loop-n-test.true refl _ x (step.ensures.2 ∙ summed) q.3,
-    )
-
-pub shape_of-text : goal.shape_of-text
-shape_of-text c = c.loop-n.invariant.0
 
 pub returns : goal.returns
 returns c =
-    let l = c.loop-n in
     let a = c.args in
-    let f = inv_cipher_by a.w.now in (
-      deciphered-done _ f _ _ (length a.text.now / 16) l.n l.count _ _ (omega arith) (omega arith) l.invariant.3,
-      text-done (unlink f) taken l.previous l.text _ (16 * l.n) (omega arith) l.invariant.2 ∙ sym (decrypted-whole f a.start a.text.now),
-    )
+    (c.chain.ensures.0, c.chain.ensures.1 ∙ sym (decrypted-whole (inv_cipher_by a.w.now) a.start a.text.now))
