@@ -25,7 +25,8 @@ fn line(rest: &[u8]) -> &[u8] {
 
 // The rest of the file after the line.
 pub fn next_line(rest: &[u8]) -> &[u8]
-    ensures { 0 < length rest.now → length result.now < length rest.now }
+    ensures upper_bound { length result.now ≤ length rest.now }
+    ensures shorter { 0 < length rest.now → length result.now < length rest.now }
 {
     match rest.iter().position(|&b| b == b'\n') {
         Some(n) => &rest[n + 1..],
@@ -65,13 +66,16 @@ fn pair(high: u8, low: u8) -> Option<u8> {
 }
 
 // Puts the bytes that a value's hexadecimal digits say at the start of `out`, and returns how many they are. None if there is no
-// digit, an odd number of them, something else before the line ends, or more than `out` holds.
+// digit, an odd number of them, something else before the line ends, or more than `out` holds; `out` then stays as it was.
 pub fn hex(value: &[u8], out: &mut [u8]) -> Option<usize>
     ensures { IfSome result (λ n. n ≤ length out.new) }
 {
     let digits = line(value);
     let n = digits.len() / 2;
     if n == 0 || digits.len() % 2 != 0 || out.len() < n {
+        return None;
+    }
+    if !digits.iter().all(|b| digit(*b).is_some()) {
         return None;
     }
     for (to, two) in out.iter_mut().zip(digits.chunks_exact(2)) {
