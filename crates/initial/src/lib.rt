@@ -15,7 +15,12 @@ use work::Made;
 
 // A place against all eight slots, with no early end: where the first match is.
 // 8 is for none: `steps::keep` works with that number, in as many instructions whatever it finds.
-fn compare_slots(sets: [KeySetSlot; Card::KEY_SETS], present: bool, v: KeySetId, sum: u32) -> Made<usize>
+fn compare_slots(
+    sets: [KeySetSlot; Card::KEY_SETS],
+    present: bool,
+    v: KeySetId,
+    sum: u32,
+) -> Made<usize>
     ensures { result ≡ slots_found present v sets sum }
 {
     let mut at = Card::KEY_SETS;
