@@ -1,7 +1,7 @@
 //! The caller's lent list of key sets, for the two loads (document 01, "The card"; T-07): no other crate reads the lent structs.
 #![tactic(auto)]
 
-ghost use Rattle.std.specs.Prelude.{◌≡◌};
+ghost use Rattle.std.specs.Prelude.{◌≡◌, get_or};
 ghost use Rattle.key_set_list.specs.First.{blank_set, eight_of};
 
 use plaid_types::{Card, KeySet, KeySetId, Value};
@@ -24,14 +24,22 @@ fn blank_set() -> KeySet
     }
 }
 
+// A key set of the list, or `d` past its end.
+fn pick(s: &[KeySet], i: usize, d: KeySet) -> KeySet
+    ensures { result ≡ get_or s.now i d }
+{
+    match s.get(i) {
+        Some(k) => *k,
+        None => d,
+    }
+}
+
 pub fn first_eight(sets: &[KeySet]) -> Eight
     ensures { result ≡ eight_of sets.now }
 {
-    let mut eight = [blank_set(); Card::KEY_SETS];
-    let n = sets.len().min(Card::KEY_SETS);
-    eight[..n].copy_from_slice(&sets[..n]);
+    let none = blank_set();
     Eight {
-        sets: eight,
+        sets: std::array::from_fn(|i| pick(sets, i, none)),
         count: sets.len(),
     }
 }
