@@ -9,8 +9,8 @@ pub const CR: u8 = 13;
 const KEPT: usize = 40;
 
 // The first bytes of a line, with zeros after them, and how many bytes it has in all. A CR at its end is in neither, since with an LF after it
-// it is the line's end and no byte of it: `cr` says that it was read. The buffer is fixed memory, and `length` counts bytes that it does not
-// keep (a).
+// it is the line's end and no byte of it: `cr` says that it was read. An array with a length, since a program here has no heap, and since
+// `length` counts bytes that are not kept.
 #[derive(Clone, Copy)]
 pub struct Line {
     start: [u8; 40],

@@ -4,11 +4,14 @@
 ghost use Rattle.std.specs.Prelude.{◌≡◌, ◌+◌, ◌*◌, ◌≤◌, ◌++◌, min, length};
 ghost use Rattle.door_answers.specs.Answer.{fault, wrong_length, apart, wiegand_text, uuid_text, in_hexadecimal, of_record, of_uuid_record, verdict, heading, answer};
 
-use printing::{MOST, Text};
+use printing::Text;
 
-// The number of a line that is refused, and the reason. The number is that of `Converted`, a C struct (a).
-fn fault(text: &mut Text, number: u8, is_record: bool)
-    requires { length text.old + 60 ≤ MOST }
+// How many bytes an answer has room for.
+pub const ROOM: usize = 300;
+
+// The number of a line that is refused, and the reason. A number and no enum, since `Converted` is a C struct and has it as a number.
+fn fault(text: &mut Text<ROOM>, number: u8, is_record: bool)
+    requires { length text.old + 60 ≤ ROOM }
     ensures written { text.new ≡ text.old ++ fault number is_record }
     ensures upper_bound { length text.new ≤ length text.old + 60 }
 {
@@ -21,20 +24,20 @@ fn fault(text: &mut Text, number: u8, is_record: bool)
 }
 
 // The same of a line that is none of the four, by its length.
-fn wrong_length(text: &mut Text, n: usize)
-    requires { length text.old + 100 ≤ MOST }
+fn wrong_length(text: &mut Text<ROOM>, n: usize)
+    requires { length text.old + 100 ≤ ROOM }
     ensures written { text.new ≡ text.old ++ wrong_length n }
     ensures upper_bound { length text.new ≤ length text.old + 100 }
 {
     text.put(b": 23, wrong length: ");
-    // u64 has no From<usize> (d).
+    // `as`, since u64 has no From<usize>.
     text.decimal(n as u64);
     text.put(b" bytes, not 26 (Wiegand), 36 (UUID), 8 or 32 (a record)");
 }
 
 // Facility and number of a Wiegand number's record.
-fn apart(text: &mut Text, four: [u8; 4])
-    requires { length text.old + 60 ≤ MOST }
+fn apart(text: &mut Text<ROOM>, four: [u8; 4])
+    requires { length text.old + 60 ≤ ROOM }
     ensures written { text.new ≡ text.old ++ apart four }
     ensures upper_bound { length text.new ≤ length text.old + 60 }
 {
@@ -45,8 +48,8 @@ fn apart(text: &mut Text, four: [u8; 4])
 }
 
 // A Wiegand number as text.
-fn wiegand_text(text: &mut Text, line: &[u8])
-    requires { (length line.now ≡ 26) × (length text.old + 100 ≤ MOST) }
+fn wiegand_text(text: &mut Text<ROOM>, line: &[u8])
+    requires { (length line.now ≡ 26) × (length text.old + 100 ≤ ROOM) }
     ensures written { text.new ≡ text.old ++ wiegand_text line.now }
     ensures upper_bound { length text.new ≤ length text.old + 100 }
 {
@@ -61,8 +64,8 @@ fn wiegand_text(text: &mut Text, line: &[u8])
 }
 
 // A Wiegand number's record.
-fn of_record(text: &mut Text, four: [u8; 4])
-    requires { length text.old + 100 ≤ MOST }
+fn of_record(text: &mut Text<ROOM>, four: [u8; 4])
+    requires { length text.old + 100 ≤ ROOM }
     ensures written { text.new ≡ text.old ++ of_record four }
     ensures upper_bound { length text.new ≤ length text.old + 100 }
 {
@@ -77,8 +80,8 @@ fn of_record(text: &mut Text, four: [u8; 4])
 }
 
 // The same in hexadecimal.
-fn wiegand_record(text: &mut Text, line: &[u8])
-    requires { (length line.now ≡ 8) × (length text.old + 100 ≤ MOST) }
+fn wiegand_record(text: &mut Text<ROOM>, line: &[u8])
+    requires { (length line.now ≡ 8) × (length text.old + 100 ≤ ROOM) }
     ensures written { text.new ≡ text.old ++ in_hexadecimal line.now of_record }
     ensures upper_bound { length text.new ≤ length text.old + 100 }
 {
@@ -91,8 +94,8 @@ fn wiegand_record(text: &mut Text, line: &[u8])
 }
 
 // A UUID as text.
-fn uuid_text(text: &mut Text, line: &[u8])
-    requires { (length line.now ≡ 36) × (length text.old + 100 ≤ MOST) }
+fn uuid_text(text: &mut Text<ROOM>, line: &[u8])
+    requires { (length line.now ≡ 36) × (length text.old + 100 ≤ ROOM) }
     ensures written { text.new ≡ text.old ++ uuid_text line.now }
     ensures upper_bound { length text.new ≤ length text.old + 100 }
 {
@@ -106,8 +109,8 @@ fn uuid_text(text: &mut Text, line: &[u8])
 }
 
 // A UUID's record.
-fn of_uuid_record(text: &mut Text, sixteen: [u8; 16])
-    requires { length text.old + 100 ≤ MOST }
+fn of_uuid_record(text: &mut Text<ROOM>, sixteen: [u8; 16])
+    requires { length text.old + 100 ≤ ROOM }
     ensures written { text.new ≡ text.old ++ of_uuid_record sixteen }
     ensures upper_bound { length text.new ≤ length text.old + 100 }
 {
@@ -121,8 +124,8 @@ fn of_uuid_record(text: &mut Text, sixteen: [u8; 16])
 }
 
 // The same in hexadecimal.
-fn uuid_record(text: &mut Text, line: &[u8])
-    requires { (length line.now ≡ 32) × (length text.old + 100 ≤ MOST) }
+fn uuid_record(text: &mut Text<ROOM>, line: &[u8])
+    requires { (length line.now ≡ 32) × (length text.old + 100 ≤ ROOM) }
     ensures written { text.new ≡ text.old ++ in_hexadecimal line.now of_uuid_record }
     ensures upper_bound { length text.new ≤ length text.old + 100 }
 {
@@ -135,8 +138,8 @@ fn uuid_record(text: &mut Text, line: &[u8])
 }
 
 // What follows the line that is shown: its other form, or why it has none. `start` has the line's first bytes.
-fn verdict(text: &mut Text, start: &[u8], n: usize)
-    requires { (length start.now ≡ min n 40) × (length text.old + 100 ≤ MOST) }
+fn verdict(text: &mut Text<ROOM>, start: &[u8], n: usize)
+    requires { (length start.now ≡ min n 40) × (length text.old + 100 ≤ ROOM) }
     ensures written { text.new ≡ text.old ++ verdict start.now n }
     ensures upper_bound { length text.new ≤ length text.old + 100 }
 {
@@ -150,8 +153,8 @@ fn verdict(text: &mut Text, start: &[u8], n: usize)
 }
 
 // The line as it is shown: whole, or its first bytes and two dots.
-fn heading(text: &mut Text, start: &[u8], n: usize)
-    requires { length text.old + 4 * length start.now + 2 ≤ MOST }
+fn heading(text: &mut Text<ROOM>, start: &[u8], n: usize)
+    requires { length text.old + 4 * length start.now + 2 ≤ ROOM }
     ensures written { text.new ≡ text.old ++ heading start.now n }
     ensures upper_bound { length text.new ≤ length text.old + 4 * length start.now + 2 }
 {
@@ -162,7 +165,7 @@ fn heading(text: &mut Text, start: &[u8], n: usize)
 }
 
 // The answer to a line of n bytes. `start` has the line's first bytes, forty of a longer one.
-pub fn answer(start: &[u8], n: usize) -> Text
+pub fn answer(start: &[u8], n: usize) -> Text<ROOM>
     requires { length start.now ≡ min n 40 }
     ensures written { result ≡ answer start.now n }
     ensures upper_bound { length result ≤ 300 }

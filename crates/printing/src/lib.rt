@@ -7,33 +7,31 @@ ghost use Rattle.printing.specs.Printing.{decimal, is_plain, shown_byte, shown};
 
 use std::marker::Model;
 
-// How many bytes a text has room for.
-pub const MOST: usize = 512;
-
-// Text as it is written: a clause sees the bytes that are written. Fixed memory (a).
+// Text as it is written, with room for N bytes: a clause sees the bytes that are written. An array with a length, since a program here has no
+// heap.
 #[derive(Drop)]
-pub struct Text {
-    bytes: [u8; 512],
+pub struct Text<const N: usize> {
+    bytes: [u8; N],
     length: usize,
 }
 
-impl Model for Text {
+impl<const N: usize> Model for Text<N> {
     ghost use Rattle.std.specs.Prelude.{List, ℕ, ◌≤◌, take};
 
     ghost Value = { List ℕ };
 
     ghost view = { λ t. take t.length t.bytes };
 
-    ghost invariant = { λ t. t.length ≤ 512 };
+    ghost invariant = { λ t. t.length ≤ N };
 }
 
-impl Text {
+impl<const N: usize> Text<N> {
     // The text with no byte.
-    pub fn new() -> Text
+    pub fn new() -> Text<N>
         ensures { result ≡ [] }
     {
         Text {
-            bytes: [0; 512],
+            bytes: [0; N],
             length: 0,
         }
     }
@@ -47,7 +45,7 @@ impl Text {
 
     // Bytes as they are.
     pub fn put(&mut self, text: &[u8])
-        requires { length self.old + length text.now ≤ MOST }
+        requires { length self.old + length text.now ≤ N }
         ensures { self.new ≡ self.old ++ text.now }
     {
         octets::copy_at(&mut self.bytes, self.length, text);
@@ -56,7 +54,7 @@ impl Text {
 
     // Bytes in hexadecimal.
     pub fn hex(&mut self, bytes: &[u8])
-        requires { length self.old + 2 * length bytes.now ≤ MOST }
+        requires { length self.old + 2 * length bytes.now ≤ N }
         ensures written { self.new ≡ self.old ++ digits_of bytes.now }
         ensures value { length self.new ≡ length self.old + 2 * length bytes.now }
     {
@@ -66,7 +64,7 @@ impl Text {
 
     // A number in decimal.
     pub fn decimal(&mut self, n: u64)
-        requires { length self.old + 20 ≤ MOST }
+        requires { length self.old + 20 ≤ N }
         ensures written { self.new ≡ self.old ++ decimal n }
         ensures upper_bound { length self.new ≤ length self.old + 20 }
     {
@@ -78,7 +76,7 @@ impl Text {
     // A byte of the input. One that is not shown as it is is written \xNN, so that no byte of the input reaches a terminal as a command, what is
     // shown is one word, and it tells which byte it was.
     fn byte(&mut self, b: u8)
-        requires { length self.old + 4 ≤ MOST }
+        requires { length self.old + 4 ≤ N }
         ensures written { self.new ≡ self.old ++ shown_byte b }
         ensures upper_bound { length self.new ≤ length self.old + 4 }
     {
@@ -93,7 +91,7 @@ impl Text {
 
     // Bytes of the input.
     pub fn shown(&mut self, bytes: &[u8])
-        requires { length self.old + 4 * length bytes.now ≤ MOST }
+        requires { length self.old + 4 * length bytes.now ≤ N }
         ensures written { self.new ≡ self.old ++ shown bytes.now }
         ensures upper_bound { length self.new ≤ length self.old + 4 * length bytes.now }
     {

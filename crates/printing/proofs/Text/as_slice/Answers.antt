@@ -2,4 +2,4 @@
 use Rattle.printing.proofs.Text.as_slice.Goals as goal
 
 pub returns : goal.returns
-returns c = c.self.view_is
+returns g c = c.self.view_is

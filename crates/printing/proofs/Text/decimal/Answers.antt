@@ -4,12 +4,12 @@ use Rattle.printing.specs.Laws.{few-digits, decimal-digits, length-then, then_as
 use Rattle.printing.proofs.Text.decimal.Goals as goal
 
 pub put-requires : goal.put-requires
-put-requires c =
+put-requires g c =
     let made = c.decimal-k in
     omega (arith, few-digits c.args.n made.result (search rules) made.ensures.len, made.ensures.in_bounds)
 
 pub returns : goal.returns
-returns c =
+returns g c =
     let made = c.decimal-k in
     let few : made.result ≤ 20 = few-digits c.args.n made.result (search rules) made.ensures.len in
     record {

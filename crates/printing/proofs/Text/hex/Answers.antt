@@ -6,12 +6,12 @@ use Rattle.printing.specs.Laws.{take-over-end, length-then}
 use Rattle.printing.proofs.Text.hex.Goals as goal
 
 pub write_digits-requires : goal.write_digits-requires
-write_digits-requires c =
+write_digits-requires g c =
     let t = c.self.inside in
     omega (arith, ap length c.self.view_is, length-take-le t.length t.bytes)
 
 pub returns : goal.returns
-returns c =
+returns g c =
     let t = c.self.inside in
     let s = digits_of c.args.bytes.now in
     let end : t.length + 2 * length c.args.bytes.now ≡ t.length + length s = omega (arith, length_digits c.args.bytes.now) in

@@ -6,10 +6,10 @@ use Rattle.printing.proofs.Text.shown.Goals as goal
 
 pub loop-b-init : goal.loop-b-init
 unfolding shown
-loop-b-init c = (sym (append-nil c.args.self.now), omega arith)
+loop-b-init g c = (sym (append-nil c.args.self.now), omega arith)
 
 pub loop-b-preserved : goal.loop-b-preserved
-loop-b-preserved c =
+loop-b-preserved g c =
     let t = c.args.self.now in
     let s = c.args.bytes.now in
     let i = c.loop-b.b-index in

@@ -4,4 +4,4 @@ use Rattle.printing.specs.Printing.{shown}
 use Rattle.printing.proofs.Text.shown.Given as goal
 
 abbrev pub invariant-loop-b : goal.invariant-loop-b
-invariant-loop-b l = (l.self ≡ l.initial.self ++ shown (take l.b-index l.bytes)) × (length l.self ≤ length l.initial.self + 4 * l.b-index)
+invariant-loop-b g l = (l.self ≡ l.initial.self ++ shown (take l.b-index l.bytes)) × (length l.self ≤ length l.initial.self + 4 * l.b-index)
