@@ -49,7 +49,7 @@ pub fn read_digits(digits: &[u8], out: &mut [u8], at: usize)
     requires { (each is_digit digits.now ≡ true) × (at + length (octets_of digits.now) ≤ length out.old) }
     ensures { out.new ≡ over out.old at (octets_of digits.now) }
 {
-    // By place: an octet's place is needed beside its two digits, with chunks_exact(2) as well (d).
+    // By place, so that the proof knows the place of each octet.
     for i in 0..digits.len() / 2 {
         let high = digit_value(digits[2 * i]);
         let low = digit_value(digits[2 * i + 1]);

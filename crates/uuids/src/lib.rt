@@ -47,7 +47,7 @@ fn formed(text: &[u8]) -> bool
     )
 }
 
-// The octets of a formed text. The five groups are named as in RFC 4122; a loop over a table of their places would be no plainer (d).
+// The octets of a formed text. The five groups are named as in RFC 4122; a loop over a table of their places would be no plainer.
 fn read(text: &[u8]) -> [u8; 16]
     requires { (length text.now ≡ 36) × (formed text.now ≡ true) }
     ensures { result ≡ record_of text.now }

@@ -49,7 +49,7 @@ fn bits_of_text(text: &[u8]) -> [u8; 32]
     ensures { result ≡ with_zeros (text_bits text.now) }
 {
     let mut low = [0u8; 26];
-    // By place: with array::from_fn a proof does not learn from 26 calls that each reads this slice, tried (c).
+    // By place: with array::from_fn the proof did not close, since it does not learn that each of 26 calls reads this slice.
     for (i, c) in text.iter().enumerate() {
         low[i] = bit_of(*c);
     }
@@ -64,7 +64,7 @@ fn characters(bits: &[u8]) -> [u8; 26]
     ensures { result ≡ map character (drop 6 bits.now) }
 {
     let mut text = [0u8; 26];
-    // By place: with array::from_fn a proof does not learn from 26 calls that each reads this slice, tried (c).
+    // By place: with array::from_fn the proof did not close, since it does not learn that each of 26 calls reads this slice.
     for (i, b) in bits[6..].iter().enumerate() {
         text[i] = b'0' + *b;
     }
