@@ -269,18 +269,18 @@ typedef char plaid_size_is_64_bits[sizeof(size_t) == 8 ? 1 : -1];
  * the library's machine code reserves, written or not, in its deepest chain
  * of calls. It is the greater of the two, in whole sixteens.
  */
-#define PLAID_STACK_LOAD 11792
-#define PLAID_STACK_LOAD_SETS 9936
-#define PLAID_STACK_COMMAND 16304
+#define PLAID_STACK_LOAD 12896
+#define PLAID_STACK_LOAD_SETS 12880
+#define PLAID_STACK_COMMAND 16288
 #define PLAID_STACK_READ_TRIES 1872
 #define PLAID_STACK_LIST 208
 #define PLAID_STACK_OPEN 352
-#define PLAID_STACK_SEAL 1952
-#define PLAID_STACK_ACCEPT 1296
+#define PLAID_STACK_SEAL 2032
+#define PLAID_STACK_ACCEPT 1424
 #define PLAID_STACK_RECORD 16
 #define PLAID_STACK_WIEGAND_RECORD 128
 #define PLAID_STACK_WIEGAND_TEXT 240
-#define PLAID_STACK_UUID_RECORD 416
+#define PLAID_STACK_UUID_RECORD 256
 #define PLAID_STACK_UUID_TEXT 16
 
 /*
