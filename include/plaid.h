@@ -261,27 +261,27 @@ typedef char plaid_size_is_64_bits[sizeof(size_t) == 8 ? 1 : -1];
  * the structs that pass by value are in it, the return address, and all that
  * the library uses below. The result is not: it stands where the caller has
  * it. What interrupts and signals put on the same stack comes on top. So does
- * what the platform's memcpy, memmove and memset, which the library calls,
- * take beyond their return address.
+ * what the platform's memcpy and memset, which the library calls, take beyond
+ * their return address.
  *
  * Measured on x86-64 and not proved: by the deepest byte that accepted,
  * refused and declined calls write on a painted stack, and by the bytes that
  * the library's machine code reserves, written or not, in its deepest chain
  * of calls. It is the greater of the two, in whole sixteens.
  */
-#define PLAID_STACK_LOAD 12896
+#define PLAID_STACK_LOAD 12928
 #define PLAID_STACK_LOAD_SETS 12880
-#define PLAID_STACK_COMMAND 16288
+#define PLAID_STACK_COMMAND 16336
 #define PLAID_STACK_READ_TRIES 1872
 #define PLAID_STACK_LIST 208
 #define PLAID_STACK_OPEN 352
-#define PLAID_STACK_SEAL 2032
+#define PLAID_STACK_SEAL 2000
 #define PLAID_STACK_ACCEPT 1424
 #define PLAID_STACK_RECORD 16
-#define PLAID_STACK_WIEGAND_RECORD 128
-#define PLAID_STACK_WIEGAND_TEXT 240
+#define PLAID_STACK_WIEGAND_RECORD 112
+#define PLAID_STACK_WIEGAND_TEXT 80
 #define PLAID_STACK_UUID_RECORD 256
-#define PLAID_STACK_UUID_TEXT 16
+#define PLAID_STACK_UUID_TEXT 80
 
 /*
  * Status of a command's answer (ISO/IEC 7816-4)

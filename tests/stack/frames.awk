@@ -4,7 +4,7 @@
 #
 # A function's own frame is its return address, what it pushes and what it takes off the stack pointer. Below it stands the deepest function
 # that it calls, or what it uses of the ABI's red zone: the furthest place below the stack pointer that an address in it starts from.
-# Of memcpy, memmove and memset, which are not the library's, the return address is counted. Machine code that this cannot follow ends it with an
+# Of memcpy and memset, which are not the library's, the return address is counted. Machine code that this cannot follow ends it with an
 # error: a call or a jump through a pointer, the stack pointer changed in another way, a function that calls itself. A frame of some thousand
 # bytes is taken in steps, so that each page is touched; where a loop does that, which compares the stack pointer, it ends with an error, too.
 
@@ -16,7 +16,7 @@ function stop(text) {
 
 # The bytes of a function and of the deepest below it.
 function bytes(name,    i, below, most) {
-    if (name == "memcpy" || name == "memmove" || name == "memset") return 8
+    if (name == "memcpy" || name == "memset") return 8
     if (!(name in frame)) stop(name " is called, and is not in the library")
     if (busy[name]) stop(name " calls itself")
     busy[name] = 1

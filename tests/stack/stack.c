@@ -403,23 +403,11 @@ static bool answered(size_t length)
  * The painted stack
  */
 
-/* The library calls these three. Here they take their return address and no more, whatever the C library's take. */
+/* The library calls these two. Here they take their return address and no more, whatever the C library's take. */
 void *memcpy(void *to, const void *from, size_t count)
 {
     for (size_t i = 0; i < count; i++)
         ((uint8_t *)to)[i] = ((const uint8_t *)from)[i];
-    return to;
-}
-
-void *memmove(void *to, const void *from, size_t count)
-{
-    uint8_t *t = to;
-    const uint8_t *f = from;
-    if (t <= f) {
-        for (size_t i = 0; i < count; i++) t[i] = f[i];
-    } else {
-        for (size_t i = count; i > 0; i--) t[i - 1] = f[i - 1];
-    }
     return to;
 }
 

@@ -260,7 +260,7 @@ fn copied(area: &[u8]) -> [u8; Card::AREA]
     ensures { result ≡ filled 1024 0 area.now }
 {
     let mut whole = empty_area();
-    whole[..area.len()].copy_from_slice(area);
+    octets::copy_at(&mut whole, 0, area);
     whole
 }
 

@@ -29,8 +29,9 @@ pub fn copy_at(d: &mut [u8], at: usize, s: &[u8])
     requires { at + length s.now ≤ length d.old }
     ensures { d.new ≡ over d.old at s.now }
 {
-    let end = at + s.len();
-    d[at..end].copy_from_slice(s);
+    for (i, b) in s.iter().enumerate() {
+        d[at + i] = *b;
+    }
 }
 
 // Both tests are made, whatever the first says: `&&` would leave the second out.

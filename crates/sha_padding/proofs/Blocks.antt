@@ -9,6 +9,7 @@ use Rattle.std.proofs.lemmas.List.{get_or-replicate}
 use borrow.Rule.Slice.PartMut.{put_mid}
 use Rattle.octets.specs.Lists.{table, table-ext, tabled, over, length_over}
 use Rattle.octets.specs.Filled.{Filled, filled_more, filled-all}
+use Rattle.octets.specs.Writes.{over-front}
 use Rattle.sha_padding.specs.Padding.{be64, pad}
 use Rattle.sha_padding.specs.Parsing.{blocks, block_at}
 use Rattle.sha_padding.specs.PaddingLaws.{length-pad, length-blocks, pad-in, pad-one, pad-zero, pad-length, pad-past, past}
@@ -58,6 +59,20 @@ unfolding over
 over-in d s at i j h e l =
     get_or-append (take at d ++ s) (drop (at + length s) d) 0 i (omega (arith, length-append (take at d) s, length-take-le at d h))
     ∙ past (take at d) s i j (omega (arith, length-take-le at d h))
+
+-- a list with s written over its first bytes
+pub filled-front : (d s : List ℕ) → length s ≤ length d → Filled (λ j. get_or s j 0) d (over d 0 s) (length s)
+filled-front d s h =
+    record {
+      long = length_over d 0 s (omega arith);
+      done = λ j l. over-in d s 0 j j (omega arith) (omega arith) l;
+      rest =
+          λ j l.
+          ap (λ x. get_or x j 0) (over-front d s)
+          ∙ past s (drop (length s) d) j (j - length s) (omega arith)
+          ∙ get_or-drop (length s) d (j - length s) 0
+          ∙ ap (λ x. get_or d x 0) (omega arith);
+    }
 
 module _ (m : List ℕ) where
   -- byte j of block i, and a block whose first k bytes are so, with zeros after them

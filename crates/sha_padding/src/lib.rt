@@ -31,7 +31,7 @@ fn front(part: &[u8]) -> [u8; 64]
     ensures { Filled (λ j. get_or part.now j 0) (replicate 64 0) result (length part.now) }
 {
     let mut b = [0u8; 64];
-    b[..part.len()].copy_from_slice(part);
+    octets::copy_at(&mut b, 0, part);
     b
 }
 
