@@ -1,21 +1,14 @@
--- `no_zero` meets its contract: the fold over what is left is the definition's. Assumes nothing.
-use Rattle.std.proofs.Common.{◌≡◌, refl, Bool, true, false, ◌&&◌, not, List, [], ◌∷◌, ℕ, eqb, fold, drop, rules, ◌∙◌}
-use Rattle.std.proofs.lemmas.Iterator.{YieldsList-from_slice}
-use Rattle.std.proofs.lemmas.Iterator.Consumers.{fold_from_yields_List}
-use Rattle.std.proofs.lemmas.Iterator.Adapters.{YieldsList-from_skip}
+-- `no_zero` meets its contract: a place past the end leaves nothing. Assumes nothing.
+use native.Mathlib.Omega.{arith}
+use lib.Seq.{take_all}
+use Rattle.std.proofs.Common.{ℕ, ◌-◌, length, drop, length-drop, ap, ◌∙◌}
+use Rattle.std.proofs.lemmas.List.{drop_min}
 use Rattle.frame.specs.Declines.{no_zero}
 use Rattle.frame.proofs.no_zero.Goals as goal
 
-abbrev also : Bool → ℕ → Bool
-also ok b = ok && not (eqb b 0)
-
-folded : (ok : Bool) (bs : List ℕ) → fold also ok bs ≡ (ok && no_zero bs)
-folded true [] = refl
-folded false [] = refl
-folded true (b ∷ bs) = folded (not (eqb b 0)) bs
-folded false (b ∷ bs) = folded false bs
-
 pub returns : goal.returns
 returns c =
-    fold_from_yields_List _ also true _ c.fold.ensures.ran (YieldsList-from_skip c.args.from (YieldsList-from_slice c.args.s.now cc) cc) (λ a x b q k. (search rules, search rules))
-    ∙ folded true (drop c.args.from c.args.s.now)
+    let s = c.args.s.now in
+    let m = c.min.result in
+    c.has_no_zero.ensures
+    ∙ ap no_zero (take_all (length s - m) (drop m s) (omega (arith, length-drop m s)) ∙ ap (λ (n : ℕ). drop n s) c.min.ensures ∙ drop_min c.args.from s)
