@@ -18,11 +18,16 @@ fn is_bit(c: u8) -> bool
 }
 
 // How many ones there are.
-#[tactic(auto, unfolding(crate::specs::Wiegand::ones))]
 fn ones(s: &[u8]) -> usize
     ensures { result ≡ ones s.now }
 {
-    s.iter().filter(|b| **b == 1).count()
+    let mut n: usize = 0;
+    for b in s {
+        if *b == 1 {
+            n += 1;
+        }
+    }
+    n
 }
 
 // Whether both parity bits of a record's 32 bits are right; each is counted with the twelve bits that it is for.
