@@ -12,7 +12,7 @@ use Rattle.work.specs.Steps.{Step, comparison, counted, sum_from}
 use Rattle.work.specs.Laws.{sum_from-append, counted-append}
 use Rattle.steps.specs.Made.{set_comparison}
 use Rattle.steps.specs.Laws.{kept-start, kept-last}
-use Rattle.std.specs.Prelude.{Option, Some, None, is_some, unwrap_or}
+use Rattle.std.specs.Prelude.{Option, is_some}
 use Rattle.list.specs.Ber.{entry_at, entry_id, next_place}
 use Rattle.list.specs.declared.Entry.{Entry}
 use Rattle.plaid_types.specs.declared.KeySetId.{KeySetId}
@@ -57,9 +57,9 @@ place-missing sets d p q zero = refl
 place-missing sets d p q (suc n) =
     ap₂ (λ (x y : ℕ). cond (eqb x 8) y x) (slot-missing (entry_id (entry_at d p)) (entry_id (entry_at d q)) 0 sets) (place-missing sets d (next_place p (entry_at d p)) (next_place q (entry_at d q)) n)
 
-pub places-from : (sets : List KeySetSlot) (o : Option ℕ) (d : List ℕ) (q n : ℕ) → places_found sets (is_some o) d (unwrap_or o q) n ≡ places_found sets (is_some o) d (unwrap_or o 0) n
-places-from sets (Some p) d q n = refl
-places-from sets None d q n = rw (places-missing sets d q 0 n, place-missing sets d q 0 n)
+pub places-from : (sets : List KeySetSlot) (formed : Bool) (d : List ℕ) (p q n : ℕ) → places_found sets formed d (cond formed p q) n ≡ places_found sets formed d p n
+places-from sets true d p q n = refl
+places-from sets false d p q n = rw (places-missing sets d q p n, place-missing sets d q p n)
 
 module _ (sets : List KeySetSlot) (formed : Bool) (d : List ℕ) where
   steps_next : (p m : ℕ) → place_steps sets formed d p (suc m) ≡ slot_steps (formed && is_some (entry_at d p)) (entry_id (entry_at d p)) sets ++ place_steps sets formed d (next_place p (entry_at d p)) m

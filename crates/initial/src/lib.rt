@@ -1,11 +1,11 @@
 //! The initial command: the places of its list against the key sets of a card, and the block that answers it.
 #![tactic(auto)]
 
-ghost use Rattle.std.specs.Prelude.{◌≡◌, cond, ◌-◌, ◌<◌, ◌≤◌, eqb, length, unwrap_or};
+ghost use Rattle.std.specs.Prelude.{◌≡◌, cond, ◌-◌, ◌<◌, ◌≤◌, eqb, length, is_ok};
 ghost use Rattle.octets.specs.Lists.{part, over};
 ghost use Rattle.plaid_types.specs.Keys.{str1_length};
 ghost use Rattle.frame.specs.Declines.{pad_bytes};
-ghost use Rattle.list.specs.Ber.{entry_id, next_place};
+ghost use Rattle.list.specs.Ber.{entry_id, next_place, start_of};
 ghost use Rattle.initial.specs.Initial.{str1, opened_with, initial_reply};
 ghost use Rattle.initial.specs.Told.{slots_found, data_found, head_of, told_initial};
 
@@ -47,10 +47,13 @@ fn first_of(at: usize, f: usize) -> usize
 }
 
 // Where the look for entries starts: for a malformed list, which has only missing places, after the data, where none is read.
-fn first_place(first: Option<usize>, end: usize) -> usize
-    ensures { result ≡ unwrap_or first end }
+fn first_place(first: Result<usize, usize>, end: usize) -> usize
+    ensures { result ≡ cond (is_ok first) (start_of first) end }
 {
-    first.unwrap_or(end)
+    match first {
+        Ok(p) => p,
+        Err(_) => end,
+    }
 }
 
 // The KeySetID of a place; 0 for a missing one, which never matches.
@@ -73,7 +76,7 @@ fn compare_places(sets: [KeySetSlot; Card::KEY_SETS], d: &[u8]) -> Made<usize>
     ensures { result ≡ data_found sets d.now }
 {
     let first = list::parse(d);
-    let formed = first.is_some();
+    let formed = first.is_ok();
     let mut p = first_place(first, d.len());
     let n = d.len() / 4;
     let mut at = Card::KEY_SETS;

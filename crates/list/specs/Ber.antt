@@ -1,5 +1,5 @@
 -- Document 01, "Initial": the list of KeySetIDs in the data of an initial command; its lengths as T-02 of document 02 has them, in BER (ITU-T X.690, 8.1.3).
-use Rattle.std.specs.Prelude.{Bool, cond, ◌&&◌, Option, Some, None, is_some, unwrap_or, List, [], ◌∷◌, ℕ, zero, suc, ◌+◌, ◌*◌, ◌-◌, ◌/◌, ◌^◌, eqb, ltb, leb, length, get_or}
+use Rattle.std.specs.Prelude.{Bool, cond, ◌&&◌, Option, Some, None, Result, Ok, Err, is_ok, List, [], ◌∷◌, ℕ, zero, suc, ◌+◌, ◌*◌, ◌-◌, ◌/◌, ◌^◌, eqb, ltb, leb, length, get_or}
 use Rattle.octets.specs.Lists.{part}
 use Rattle.plaid_types.specs.declared.KeySetId.{KeySetId}
 use Rattle.list.specs.declared.Length.{Length}
@@ -70,18 +70,22 @@ unfoldable pub ended : List ℕ → Form → ℕ → Bool
 ended d Definite p = eqb p (length d)
 ended d Indefinite p = eqb (p + 2) (length d) && (eqb (get_or d p 0) 0 && eqb (get_or d (p + 1) 0) 0)
 
--- the first entry's place, if there is a head and the walk ends at the entries' end
-abbrev pub listed_from : List ℕ → Option Outer → Option ℕ
-listed_from d None = None
-listed_from d (Some h) = cond (ended d h.form (walked d h.first (place_count d))) (Some h.first) None
+-- where the entries start: Ok if there is a head and the walk ends at the entries' end, else Err; without a head that place is 0
+abbrev pub listed_from : List ℕ → Option Outer → Result ℕ ℕ
+listed_from d None = Err 0
+listed_from d (Some h) = cond (ended d h.form (walked d h.first (place_count d))) (Ok h.first) (Err h.first)
 
--- "Anything else, or bytes left over, makes the list malformed": None; the first entry's place of a well-formed list
-unfoldable pub listed : List ℕ → Option ℕ
+-- "Anything else, or bytes left over, makes the list malformed": Err
+unfoldable pub listed : List ℕ → Result ℕ ℕ
 listed d = listed_from d (head d)
 
--- whether a list is well formed, and where its entries start; of a malformed list nothing is read, and that place is 0
+-- whether a list is well formed, and where its entries start, whichever it is
 abbrev pub is_formed : List ℕ → Bool
-is_formed d = is_some (listed d)
+is_formed d = is_ok (listed d)
+
+abbrev pub start_of : Result ℕ ℕ → ℕ
+start_of (Ok p) = p
+start_of (Err p) = p
 
 abbrev pub first_entry : List ℕ → ℕ
-first_entry d = unwrap_or (listed d) 0
+first_entry d = start_of (listed d)

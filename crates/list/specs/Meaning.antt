@@ -1,6 +1,6 @@
 -- Well formed data are just the encodings of lists of KeySetIDs: floor(Lc/4) turns are enough to walk each, and the walk finds each KeySetID in its place.
 -- Assumes nothing.
-use Rattle.std.specs.Prelude.{◌≡◌, refl, Bool, true, false, cond, Option, Some, None, is_some, List, [], ◌∷◌, ◌++◌, ℕ, zero, suc, ◌+◌, ◌*◌, ◌-◌, ◌/◌, ◌%◌, ◌<◌, ◌≤◌, eqb, length, get_or, take, drop}
+use Rattle.std.specs.Prelude.{◌≡◌, refl, Bool, true, false, cond, Option, Some, None, Ok, Err, is_ok, List, [], ◌∷◌, ◌++◌, ℕ, zero, suc, ◌+◌, ◌*◌, ◌-◌, ◌/◌, ◌%◌, ◌<◌, ◌≤◌, eqb, length, get_or, take, drop}
 use Rattle.std.proofs.Common.{sym, ap₂, ◌∙◌, append_assoc, append-nil, add-one, arith, eq-eqb, ne_eqb, eqb-true, length-append, length-drop, take-append-drop, drop-cons, drop-drop, get_or-drop}
 use Rattle.std.proofs.Math.Path.{ap, subst⁻¹}
 use Rattle.std.proofs.Math.Bool.{and-eq-true_iff}
@@ -181,13 +181,13 @@ module _ {d ids : List ℕ} (e : Encodes ids d) where
   seen = head-seen e
 
   -- an encoding is well formed, and its entries start after its head
-  encodes-listed : listed d ≡ Some seen.n
+  encodes-listed : listed d ≡ Ok seen.n
   unfolding listed
   encodes-listed =
       simp (seen.is, tail-ended d seen.form (walked d seen.n (length d / 4)) (walks-enough (tail seen.form) (tail-zero seen.form) seen.entries seen.rest))
 
   pub encodes-formed : is_formed d ≡ true
-  encodes-formed = ap is_some encodes-listed
+  encodes-formed = ap is_ok encodes-listed
 
   -- its KeySetIDs are listed from the first place on, and there are places enough
   pub encodes-lists : Lists d (first_entry d) ids
@@ -327,16 +327,16 @@ indefinite-by d t u e =
     let h : d ≡ 0x30 ∷ 0x80 ∷ (e.front ++ (0 ∷ 0 ∷ [])) = byte_at d 0 (omega arith) ∙ rw (t, byte_at d 1 (omega arith), u, e.split) in
     record { ids = e.ids; encodes = subst⁻¹ (λ (x : List ℕ). Encodes e.ids x) h (indefinite e.are) }
 
-some-first : (b : Bool) (n : ℕ) → is_some (cond b (Some n) None) ≡ true → b ≡ true
-some-first true n e = refl
-some-first false n e = absurd (false≢true e)
+ok-first : (b : Bool) (n : ℕ) → is_ok (cond b (Ok n) (Err n)) ≡ true → b ≡ true
+ok-first true n e = refl
+ok-first false n e = absurd (false≢true e)
 
-decoded-by : (d : List ℕ) (h : Option Outer) → HeadCase d (length_at d 1) h → is_some (listed_from d h) ≡ true → Decoded d
+decoded-by : (d : List ℕ) (h : Option Outer) → HeadCase d (length_at d 1) h → is_ok (listed_from d h) ≡ true → Decoded d
 decoded-by d h (right l t o q i) f =
-    let w = ended-tail d Definite (walked d l.next (length d / 4)) (some-first _ _ (rw i at f)) in
+    let w = ended-tail d Definite (walked d l.next (length d / 4)) (ok-first _ _ (rw i at f)) in
     definite-by d l.value l.next t (length-sized d 1 l o) q (walk-entries d [] (length d / 4) l.next w)
 decoded-by d h (open-end t u i) f =
-    let w = ended-tail d Indefinite (walked d 2 (length d / 4)) (some-first _ _ (rw i at f)) in
+    let w = ended-tail d Indefinite (walked d 2 (length d / 4)) (ok-first _ _ (rw i at f)) in
     indefinite-by d t u (walk-entries d (0 ∷ 0 ∷ []) (length d / 4) 2 w)
 decoded-by d h (wrong i) f = absurd (false≢true (rw i at f))
 

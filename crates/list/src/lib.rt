@@ -189,11 +189,17 @@ fn ended(d: &[u8], form: Form, at: usize) -> bool
     }
 }
 
-// Where the first entry of a well-formed list stands.
-pub fn parse(d: &[u8]) -> Option<usize>
+// Where the entries of a list start: Ok of a well-formed list, Err of a malformed one, 0 if it has no head.
+pub fn parse(d: &[u8]) -> Result<usize, usize>
     ensures { result ≡ listed d.now }
 {
-    let h = head(d)?;
+    let Some(h) = head(d) else {
+        return Err(0);
+    };
     let e = walk(d, h.first, d.len() / 4);
-    ended(d, h.form, e).then_some(h.first)
+    if ended(d, h.form, e) {
+        Ok(h.first)
+    } else {
+        Err(h.first)
+    }
 }

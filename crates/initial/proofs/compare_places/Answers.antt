@@ -3,8 +3,8 @@ use Prim.Native.Nat.{ℕ}
 use mathlib.Core.Path.{◌≡◌, ap, ap₂, ◌∙◌}
 use mathlib.Core.Bool.{Bool, ◌&&◌}
 use lib.ListN.{length}
-use Rattle.std.specs.Prelude.{Option, is_some, unwrap_or}
-use Rattle.list.specs.Ber.{place_count}
+use Rattle.std.specs.Prelude.{Result, is_ok}
+use Rattle.list.specs.Ber.{place_count, start_of}
 use native.Mathlib.Omega.{arith}
 use Rattle.initial.specs.Told.{places_found}
 use Rattle.initial.proofs.Places.{places-start, places-turn, places-end, places-from, count-slots}
@@ -30,7 +30,7 @@ loop-preserved c =
     c.loop-test.true
     c.loop.invariant
     c.step-e.ensures
-    (c.both.ensures ∙ ap (λ (x : Bool). c.is_some-formed.result && x) c.is_some-present.ensures)
+    (c.both.ensures ∙ ap (λ (x : Bool). c.is_ok-formed.result && x) c.is_some-present.ensures)
     c.id_of.ensures
     c.compare_slots-f.ensures
     c.first_of-at.ensures
@@ -41,7 +41,8 @@ returns c =
     let sets = c.args.sets in
     let d = c.args.d.now in
     let n = place_count d in
+    let r = c.parse-first.result in
     places-end _ _ _ (search rules) c.loop.invariant
-    ∙ ap₂ (λ (f : Bool) (p : ℕ). places_found sets f d p n) c.is_some-formed.ensures c.first_place-p.ensures
-    ∙ places-from sets c.parse-first.result d (length d) n
-    ∙ ap (λ (o : Option ℕ). places_found sets (is_some o) d (unwrap_or o 0) n) c.parse-first.ensures
+    ∙ ap₂ (λ (f : Bool) (p : ℕ). places_found sets f d p n) c.is_ok-formed.ensures.value c.first_place-p.ensures
+    ∙ places-from sets (is_ok r) d (start_of r) (length d) n
+    ∙ ap (λ (o : Result ℕ ℕ). places_found sets (is_ok o) d (start_of o) n) c.parse-first.ensures
