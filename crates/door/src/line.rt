@@ -35,28 +35,29 @@ impl Line {
         &self.start[..self.length.min(KEPT)]
     }
 
-    // The line with one byte more. The count stays at the largest number.
-    fn more(mut self, b: u8) -> Line {
+    // One byte more, in place: a line by value would be copied at each byte. The count stays at the largest number.
+    fn more(&mut self, b: u8) {
         if self.length < KEPT {
             self.start[self.length] = b;
         }
         self.length = self.length.saturating_add(1);
         self.cr = false;
-        self
     }
 
-    // The line where no LF comes after it: a CR at its end is a byte of it.
-    pub fn whole(self) -> Line {
-        if self.cr { self.more(CR) } else { self }
-    }
-
-    // The line and the next byte, which is no LF.
-    pub fn with(self, b: u8) -> Line {
-        let mut line = self.whole();
-        if b == CR {
-            line.cr = true;
-            return line;
+    // No LF comes after the line: a CR at its end is a byte of it.
+    pub fn whole(&mut self) {
+        if self.cr {
+            self.more(CR);
         }
-        line.more(b)
+    }
+
+    // The next byte, which is no LF.
+    pub fn push(&mut self, b: u8) {
+        self.whole();
+        if b == CR {
+            self.cr = true;
+        } else {
+            self.more(b);
+        }
     }
 }

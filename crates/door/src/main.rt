@@ -28,7 +28,7 @@ fn take(rt: &impl Print, begun: Line, bytes: &[u8]) -> Result<Line, Fault> {
             say(rt, line)?;
             line = Line::empty();
         } else {
-            line = line.with(b);
+            line.push(b);
         }
     }
     Ok(line)
@@ -36,7 +36,8 @@ fn take(rt: &impl Print, begun: Line, bytes: &[u8]) -> Result<Line, Fault> {
 
 // The end of the input: the line that no LF ended is answered, if there is one.
 fn ended(rt: &impl Print, begun: Line) -> Result<(), Fault> {
-    let line = begun.whole();
+    let mut line = begun;
+    line.whole();
     if 0 < line.length {
         say(rt, line)
     } else {
