@@ -11,16 +11,16 @@ use std::rt::Files;
 
 // The section that this line starts, or `last` if it starts none. A record of no section cannot be run.
 fn section_at(line: &[u8], last: Option<Direction>) -> Option<Direction> {
+    if line.first() != Some(&b'[') {
+        return last;
+    }
     if line.starts_with(b"[ENCRYPT]") {
         return Some(Direction::Encipher);
     }
     if line.starts_with(b"[DECRYPT]") {
         return Some(Direction::Decipher);
     }
-    if line.starts_with(b"[") {
-        return None;
-    }
-    last
+    None
 }
 
 // What a file's name says of its records: whether they are chained (CBC), and how many bytes their keys have.
@@ -98,7 +98,7 @@ fn records(rt: &impl Print, name: &[u8], file: &[u8], kind: Kind) -> io::Result<
     let mut rest = file;
     while !rest.is_empty() {
         section = section_at(rest, section);
-        if rest.starts_with(b"COUNT = ") {
+        if rsp::starts(rest, b"COUNT = ") {
             let ran = run_record(rest, kind, section).unwrap_or(Ran::Unread);
             complain(rt, name, rest, section, ran)?;
             tally = tally.with(section.unwrap_or(Direction::Encipher), ran);

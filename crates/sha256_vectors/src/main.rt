@@ -86,7 +86,7 @@ fn messages(rt: &impl Print, name: &[u8], file: &[u8]) -> io::Result<Tally> {
     let mut tally = Tally::default();
     let mut rest = file;
     while !rest.is_empty() {
-        if rest.starts_with(b"Len = ") {
+        if rsp::starts(rest, b"Len = ") {
             let ran = message(rest).unwrap_or(Ran::Unread);
             complain(rt, name, rest, ran)?;
             tally = tally.with(ran);
@@ -137,7 +137,7 @@ fn outputs(rt: &impl Print, name: &[u8], file: &[u8], start: [u8; 32]) -> io::Re
     let mut tally = Tally::default();
     let mut rest = file;
     while !rest.is_empty() {
-        if rest.starts_with(b"COUNT = ") {
+        if rsp::starts(rest, b"COUNT = ") {
             let made = thousand(seed);
             let ran = output(rest, made).unwrap_or(Ran::Unread);
             complain(rt, name, rest, ran)?;
