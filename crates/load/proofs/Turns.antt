@@ -1,6 +1,6 @@
 -- The folds and loops of a load: one looks for an element, one for a repeated number, one for the largest reply size, one copies into slots. Assumes nothing.
 use Prim.Native.Nat.{ℕ, suc, ◌+◌, ◌-◌, ◌<◌, ◌≤◌}
-use Rattle.std.proofs.Common.{◌≡◌, refl, sym, ap, ◌∙◌, arith, ltb-true, ltb-false, Bool, true, false, ◌||◌, List, [], ◌∷◌, ◌++◌, map, max, ltb, cond, length, get_or, take, drop, set, length-take-le, add-one, append_assoc}
+use Rattle.std.proofs.Common.{◌≡◌, refl, sym, ap, ap₂, ◌∙◌, arith, ltb-true, ltb-false, Bool, true, false, ◌||◌, List, [], ◌∷◌, ◌++◌, map, max, ltb, cond, length, get_or, take, drop, set, length-take-le, add-one, append_assoc, drop-cons, get_or-take}
 use mathlib.Core.Bool.{or-false, or_assoc}
 use Rattle.std.specs.List.{fold, take-map}
 use Rattle.std.specs.Fn.{Called}
@@ -10,7 +10,7 @@ use Rattle.std.proofs.lemmas.List.{same_lists, get_or-map, drop-replicate, map-a
 use Rattle.std.proofs.Math.ListN.{replicate, length-map}
 use Rattle.std.proofs.Math.Seq.{set-append_seam, take-suc}
 use Rattle.plaid_types.specs.declared.Mode.{Mode}
-use Rattle.load.specs.Load.{some, repeated, filled, reply_size_for, larger, largest_size}
+use Rattle.load.specs.Load.{past_mode, some, repeated, filled, reply_size_for, larger, largest_size}
 use Rattle.load.proofs.Laws.{larger-assoc, larger-than-none}
 
 -- the look for an element
@@ -65,3 +65,17 @@ given-ids g h f l ids d {k} n m z w e =
     same_lists ids (map h l) (m.long ∙ sym z ∙ sym (length-map l h))
     (λ i x b. let c = m.at i d x (omega (arith, m.long)) in w _ _ _ _ c.2 ∙ sym (get_or-map h l i d x (omega (arith, m.long)))) in
     e ∙ ap (λ x. repeated (take n x)) s ∙ ap repeated (take-map h n l)
+
+-- One turn of a loop over the first n modes that looks for the largest reply size.
+next : {A : Type 0} (l : List A) (n i : ℕ) (d : A) → i < n → n ≤ length l → drop i (take n l) ≡ get_or l i d ∷ drop (i + 1) (take n l)
+next {A = A} l n i d h k =
+    drop-cons (take n l) i d (omega (arith, length-take-le n l k))
+    ∙ ap₂ (λ (x : A) (m : ℕ). x ∷ drop m (take n l)) (get_or-take n l i d h) (sym (add-one i))
+
+pub size-turn : (l : List Mode) (n i size mine more all : ℕ) → i < n → n ≤ length l → mine ≡ reply_size_for (get_or l i past_mode).len → more ≡ larger size mine →
+    larger size (largest_size (drop i (take n l))) ≡ all → larger more (largest_size (drop (i + 1) (take n l))) ≡ all
+size-turn l n i size mine more all h k e m s =
+    ap (λ (x : ℕ). larger x (largest_size (drop (i + 1) (take n l)))) (m ∙ ap (larger size) e)
+    ∙ larger-assoc size (reply_size_for (get_or l i past_mode).len) (largest_size (drop (i + 1) (take n l)))
+    ∙ sym (ap (λ (x : List Mode). larger size (largest_size x)) (next l n i past_mode h k))
+    ∙ s

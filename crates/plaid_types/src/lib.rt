@@ -184,6 +184,9 @@ pub struct Tries {
 }
 
 impl Tries {
+    // Where a count holds.
+    pub const MOST: u16 = 65535;
+
     // A new card has none.
     pub fn none() -> Tries
         ensures { result ≡ no_tries }

@@ -37,14 +37,14 @@ const INV_SBOX: [u8; 256] = [
 ];
 
 // FIPS 197's table SBOX. A function that indexes a constant copies it first, so a cipher takes the table once and lends it down.
-#[derive(Drop)]
+#[derive(Clone, Copy)]
 pub struct SBox {
     pub entries: [u8; 256],
     pub ghost ruled: { entries ≡ sbox_table },
 }
 
 // Its table INVSBOX.
-#[derive(Drop)]
+#[derive(Clone, Copy)]
 pub struct InvSBox {
     pub entries: [u8; 256],
     pub ghost ruled: { entries ≡ inv_table },
