@@ -14,10 +14,10 @@ fn section_at(line: &[u8], last: Option<Direction>) -> Option<Direction> {
     if line.first() != Some(&b'[') {
         return last;
     }
-    if line.starts_with(b"[ENCRYPT]") {
+    if rsp::starts(line, b"[ENCRYPT]") {
         return Some(Direction::Encipher);
     }
-    if line.starts_with(b"[DECRYPT]") {
+    if rsp::starts(line, b"[DECRYPT]") {
         return Some(Direction::Decipher);
     }
     None

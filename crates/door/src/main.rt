@@ -2,6 +2,7 @@
 //! in hexadecimal, is written to standard output with its other form, or with its number and the reason in words.
 #![tactic(auto)]
 
+use door_answers::{ROOM, Text};
 use line::Line;
 use std::io::Read;
 
@@ -14,18 +15,19 @@ enum Fault {
     Output,
 }
 
-// Writes the answer to a line.
-fn say(rt: &impl Print, line: Line) -> Result<(), Fault> {
-    let text = door_answers::answer(line.kept(), line.length);
+// Writes the answer to a line. `text` is room for it, the same at each line.
+fn say(rt: &impl Print, text: &mut Text<ROOM>, line: &Line) -> Result<(), Fault> {
+    text.clear();
+    door_answers::write_answer(text, line.kept(), line.length);
     rt.write_all(text.as_slice()).map_err(|_| Fault::Output)
 }
 
 // The bytes that were read, after the line that those before them began: each line that ends among them is answered. The line that they begin.
-fn take(rt: &impl Print, begun: Line, bytes: &[u8]) -> Result<Line, Fault> {
+fn take(rt: &impl Print, text: &mut Text<ROOM>, begun: Line, bytes: &[u8]) -> Result<Line, Fault> {
     let mut line = begun;
     for &b in bytes {
         if b == line::LF {
-            say(rt, line)?;
+            say(rt, text, &line)?;
             line = Line::empty();
         } else {
             line.push(b);
@@ -35,34 +37,40 @@ fn take(rt: &impl Print, begun: Line, bytes: &[u8]) -> Result<Line, Fault> {
 }
 
 // The end of the input: the line that no LF ended is answered, if there is one.
-fn ended(rt: &impl Print, begun: Line) -> Result<(), Fault> {
+fn ended(rt: &impl Print, text: &mut Text<ROOM>, begun: Line) -> Result<(), Fault> {
     let mut line = begun;
     line.whole();
     if 0 < line.length {
-        say(rt, line)
+        say(rt, text, &line)
     } else {
         Ok(())
     }
 }
 
 // One piece of the input, as much as there is at once. The line that it begins, or None at the end of the input.
-fn piece(rt: &impl Print, input: &mut impl Read, begun: Line) -> Result<Option<Line>, Fault> {
+fn piece(
+    rt: &impl Print,
+    text: &mut Text<ROOM>,
+    input: &mut impl Read,
+    begun: Line,
+) -> Result<Option<Line>, Fault> {
     let mut buf = [0u8; 4096];
     match input.read(&mut buf) {
         Ok(0) => {
-            ended(rt, begun)?;
+            ended(rt, text, begun)?;
             Ok(None)
         }
-        Ok(n) => Ok(Some(take(rt, begun, &buf[..n])?)),
+        Ok(n) => Ok(Some(take(rt, text, begun, &buf[..n])?)),
         Err(_) => Err(Fault::Input),
     }
 }
 
 // Nothing shows the prover that the input ends, so the pieces are counted up to the largest number, which no input has.
 fn run(rt: &impl Print, input: &mut impl Read) -> Result<(), Fault> {
+    let mut text = Text::new();
     let mut line = Line::empty();
     for _ in 0..u64::MAX {
-        match piece(rt, input, line)? {
+        match piece(rt, &mut text, input, line)? {
             Some(begun) => line = begun,
             None => return Ok(()),
         }

@@ -4,7 +4,7 @@
 ghost use Rattle.std.specs.Prelude.{◌≡◌, ◌+◌, ◌*◌, ◌≤◌, ◌++◌, min, length};
 ghost use Rattle.door_answers.specs.Answer.{fault, wrong_length, apart, wiegand_text, uuid_text, in_hexadecimal, of_record, of_uuid_record, verdict, heading, answer};
 
-use printing::Text;
+pub use printing::Text;
 
 // How many bytes an answer has room for.
 pub const ROOM: usize = 300;
@@ -171,8 +171,17 @@ pub fn answer(start: &[u8], n: usize) -> Text<ROOM>
     ensures upper_bound { length result ≤ 300 }
 {
     let mut text = Text::new();
-    heading(&mut text, start, n);
-    verdict(&mut text, start, n);
-    text.put(b"\n");
+    write_answer(&mut text, start, n);
     text
+}
+
+// The same in a text that has no byte yet: a text by value would be copied at each line.
+pub fn write_answer(text: &mut Text<ROOM>, start: &[u8], n: usize)
+    requires { (length start.now ≡ min n 40) × (length text.old ≡ 0) }
+    ensures written { text.new ≡ answer start.now n }
+    ensures upper_bound { length text.new ≤ 300 }
+{
+    heading(text, start, n);
+    verdict(text, start, n);
+    text.put(b"\n");
 }

@@ -219,7 +219,7 @@ impl Tries {
 fn counted(one: bool, n: u16) -> u16
     ensures { result ≡ cond one (one_more n) n }
 {
-    n.saturating_add(u16::from(one))
+    n.saturating_add(u16::from(one)).min(Tries::MOST)
 }
 
 #[repr(C)]

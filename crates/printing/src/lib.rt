@@ -36,6 +36,13 @@ impl<const N: usize> Text<N> {
         }
     }
 
+    // The same room with no byte in it.
+    pub fn clear(&mut self)
+        ensures { self.new ≡ [] }
+    {
+        self.length = 0;
+    }
+
     // The bytes that are written.
     pub fn as_slice(&self) -> &[u8]
         ensures { result.now ≡ self.now }

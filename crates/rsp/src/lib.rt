@@ -37,14 +37,20 @@ pub fn next_line(rest: &[u8]) -> &[u8]
     &rest[rest.len()..]
 }
 
-// Whether the rest of the file begins with a text. The first byte is compared alone: most lines differ there.
+// Whether the rest of the file begins with a text. It ends at the first byte that differs, which for most lines is the first of all.
 pub fn starts(rest: &[u8], text: &[u8]) -> bool
     ensures { result ≡ true → length text.now ≤ length rest.now }
 {
-    if rest.is_empty() || text.is_empty() {
-        return text.is_empty();
+    let fits = text.len() <= rest.len();
+    if !fits {
+        return fits;
     }
-    rest[0] == text[0] && rest.starts_with(text)
+    for (k, b) in text.iter().enumerate() {
+        if rest[k] != *b {
+            return false;
+        }
+    }
+    true
 }
 
 // The file from the value on of a field of the record that begins here. `name` is the field's, with " = " at its end.

@@ -1,5 +1,5 @@
 -- `shown` meets its contract. Assumes nothing.
-use Rattle.std.proofs.Common.{◌++◌, List, ℕ, take, get_or, ap, ◌∙◌, sym, append-nil, arith}
+use Rattle.std.proofs.Common.{take, get_or, sym, append-nil, arith}
 use Rattle.printing.specs.Laws.{then, then_as, shown-more}
 use Rattle.printing.specs.Printing.{shown_byte, shown}
 use Rattle.printing.proofs.Text.shown.Goals as goal
