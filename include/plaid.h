@@ -269,14 +269,14 @@ typedef char plaid_size_is_64_bits[sizeof(size_t) == 8 ? 1 : -1];
  * the library's machine code reserves, written or not, in its deepest chain
  * of calls. It is the greater of the two, in whole sixteens.
  */
-#define PLAID_STACK_LOAD 12928
-#define PLAID_STACK_LOAD_SETS 12880
-#define PLAID_STACK_COMMAND 16336
+#define PLAID_STACK_LOAD 11856
+#define PLAID_STACK_LOAD_SETS 12048
+#define PLAID_STACK_COMMAND 16224
 #define PLAID_STACK_READ_TRIES 1872
 #define PLAID_STACK_LIST 208
 #define PLAID_STACK_OPEN 352
 #define PLAID_STACK_SEAL 2000
-#define PLAID_STACK_ACCEPT 1424
+#define PLAID_STACK_ACCEPT 1440
 #define PLAID_STACK_RECORD 16
 #define PLAID_STACK_WIEGAND_RECORD 112
 #define PLAID_STACK_WIEGAND_TEXT 80

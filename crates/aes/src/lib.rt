@@ -13,8 +13,8 @@ pub fn encipher(table: &SBox, w: &[[u8; 16]], s: [u8; 16]) -> [u8; 16]
 {
     let last = w.len() - 1;
     let mut t = rounds::add_round_key(rounds::columns_of(s), w[0]);
-    for key in &w[1..last] {
-        t = rounds::round(table, t, *key);
+    for i in 1..last {
+        t = rounds::round(table, t, w[i]);
     }
     rounds::bytes_of(rounds::last_round(table, t, w[last]))
 }
@@ -26,8 +26,8 @@ pub fn decipher(table: &InvSBox, w: &[[u8; 16]], s: [u8; 16]) -> [u8; 16]
 {
     let last = w.len() - 1;
     let mut t = rounds::add_round_key(rounds::columns_of(s), w[last]);
-    for key in w[1..last].iter().rev() {
-        t = rounds::inv_round(table, t, *key);
+    for i in (1..last).rev() {
+        t = rounds::inv_round(table, t, w[i]);
     }
     rounds::bytes_of(rounds::inv_last_round(table, t, w[0]))
 }

@@ -83,12 +83,12 @@ module _ (text y text' : List ℕ) (at at' : ℕ) (fits : at + 16 ≤ length tex
       deciphered-turn text y text' at at' fits long further written key (inv_cipher_by w) n j j' sum sum' all h one b p r e
 
 -- all n steps made: how many they are, and the work sum
-module _ (key : List ℕ) (w : List (List ℕ)) (text text₀ : List ℕ) (n j sum sum₀ : ℕ) (all_made : j ≡ n) where
+module _ (key : List ℕ) (w : List (List ℕ)) (text text₀ : List ℕ) (count n j sum sum₀ : ℕ) (all_made : j ≡ n) (all_told : count ≡ n) where
   none_left : n - j ≡ 0
   none_left = omega arith
 
   pub steps-done : (v : Way) (c c₀ : List ℕ) → sum_from sum (steps_of v key w c (n - j) text) ≡ sum_from sum₀ (steps_of v key w c₀ n text₀) →
-      ◌≡◌ {A = Made ⊤} (record { value = tt; count = n; sum = sum }) (made (kind_of v) sum₀ (steps_of v key w c₀ n text₀))
+      ◌≡◌ {A = Made ⊤} (record { value = tt; count = count; sum = sum }) (made (kind_of v) sum₀ (steps_of v key w c₀ n text₀))
   unfolding enciphered deciphered
-  steps-done (Encipher t) c c₀ e = told (sym (counted-enciphered key (cipher_by w) n c₀ text₀)) (rw none_left at e)
-  steps-done (Decipher t) c c₀ e = told (sym (counted-deciphered key (inv_cipher_by w) n text₀)) (rw none_left at e)
+  steps-done (Encipher t) c c₀ e = told (all_told ∙ sym (counted-enciphered key (cipher_by w) n c₀ text₀)) (rw none_left at e)
+  steps-done (Decipher t) c c₀ e = told (all_told ∙ sym (counted-deciphered key (inv_cipher_by w) n text₀)) (rw none_left at e)

@@ -62,7 +62,7 @@ fn has_no_zero(s: &[u8]) -> bool
     s.iter().fold(true, |ok, b| octets::both(ok, *b != 0))
 }
 
-// A part is taken first: with `skip` each turn of the loop has a test of its own, and the whole takes 15 times the instructions.
+// The part is taken first: `skip` has a test of its own at each turn of the loop, some 2,600 instructions more a command.
 pub fn no_zero(s: &[u8], from: usize) -> bool
     ensures { result ≡ no_zero (drop from s.now) }
 {

@@ -14,11 +14,15 @@ fn is_digit(c: u8) -> bool
     c.is_ascii_hexdigit()
 }
 
-// Whether every character is one.
+// Whether every character is one. A loop, where `conversion::each` would do: a must-fail edit changes its place.
 pub fn are_digits(s: &[u8]) -> bool
     ensures { result ≡ each is_digit s.now }
 {
-    conversion::each(s, is_digit)
+    let mut ok = true;
+    for c in s {
+        ok = octets::both(ok, is_digit(*c));
+    }
+    ok
 }
 
 // The value of a digit.

@@ -39,7 +39,7 @@ pub fn first_eight(sets: &[KeySet]) -> Eight
 {
     let none = blank_set();
     Eight {
-        sets: std::array::from_fn(|i| pick(sets, i, none)),
+        sets: [0, 1, 2, 3, 4, 5, 6, 7].map(|i| pick(sets, i, none)),
         count: sets.len(),
     }
 }

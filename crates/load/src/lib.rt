@@ -131,7 +131,9 @@ pub fn sets_fault(
     if n == 0 || Card::KEY_SETS < n {
         return Err(Refusal::KeySetCount);
     }
-    if wrong_keys(l, &sets[..n]) | other {
+    let keys = wrong_keys(l, &sets[..n]);
+    let wrong = keys | other;
+    if wrong {
         return Err(Refusal::ValueLength);
     }
     let ids = sets.map(|k| k.id.0);

@@ -11,7 +11,9 @@ pub fn block_at(s: &[u8], at: usize) -> [u8; 16]
     ensures { result ≡ part s.now at 16 }
 {
     let mut b = [0u8; 16];
-    b.copy_from_slice(part_of(s, at, 16));
+    for i in 0..16 {
+        b[i] = s[at + i];
+    }
     b
 }
 

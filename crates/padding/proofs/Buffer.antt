@@ -1,5 +1,5 @@
 -- Padding written into a buffer, a byte at a time from the end of the text on. Assumes nothing.
-use mathlib.Core.Path.{◌≡◌, sym, ap, ◌∙◌}
+use mathlib.Core.Path.{◌≡◌, sym, ap, ap₂, ◌∙◌}
 use mathlib.Core.List.{List, ◌∷◌, ◌++◌, append_assoc}
 use Prim.Native.Nat.{ℕ, suc, ◌+◌, ◌*◌, ◌<◌, ◌≤◌}
 use native.Mathlib.Nat.{zero-add}
@@ -7,7 +7,7 @@ use native.Mathlib.Numerals.{add-one}
 use native.Mathlib.Omega.{arith}
 use borrow.Author.Tests.{le-leb, lt-leb}
 use borrow.Rule.Slice.PartMut.{put_mid}
-use lib.ListN.{length, set, take, drop, replicate, length-append}
+use lib.ListN.{length, set, take, drop, replicate, length-append, length-take, length-drop, length-set, length-replicate}
 use lib.Seq.{length-take-le, append_snoc, take-suc-set, drop-set-lt, drop-drop}
 use Rattle.octets.specs.Lists.{over}
 use Rattle.padding.specs.Method2.{blocks_for, zero_bytes, padded, pad_answer, pad_buffer}
@@ -45,6 +45,19 @@ module _ (d : List ℕ) (t : ℕ) (fits : 16 * blocks_for t ≤ length d) where
       over-set d t 0x80 (replicate (zero_bytes t) 0) (omega arith)
       ∙ behind-text d t (omega arith)
       ∙ simp (le-leb (16 * blocks_for t) (length d) fits)
+
+  -- the same by a part that is filled: it starts one past the byte 0x80
+  pub buffer-filled : (s : List ℕ) (at n : ℕ) →
+      at ≡ t + 1 →
+      n ≡ zero_bytes t →
+      s ≡ replicate (length (take n (drop at (set d t 0x80)))) 0 →
+      put_mid at n (set d t 0x80) s ≡ pad_buffer d t
+  buffer-filled s at n e k h =
+      let m : length (take n (drop at (set d t 0x80))) ≡ zero_bytes t = simp (length-take, length-drop, length-set) (omega arith) in
+      let z : s ≡ replicate (zero_bytes t) 0 = h ∙ ap (λ (x : ℕ). replicate {A = ℕ} x 0) m in
+      put-over (set d t 0x80) s at n (ap length z ∙ length-replicate (zero_bytes t) 0 ∙ sym k)
+      ∙ ap₂ (over (set d t 0x80)) e z
+      ∙ buffer-fits
 
 module _ (d : List ℕ) (t : ℕ) (short : length d < 16 * blocks_for t) where
   pub answer-short : pad_answer (length d) t ≡ None

@@ -1,12 +1,11 @@
 -- The blocks of the padded message as the code makes them: bytes of the message, the byte 0x80, zeros, and the length
 -- in bits written over the last eight bytes. Assumes nothing.
 use Rattle.std.specs.Int.{to_be_bytes}
-use Rattle.std.proofs.Common.{◌≡◌, refl, sym, ap, ◌∙◌, List, [], ◌∷◌, ◌++◌, ⊎_elim, ℕ, zero, suc, ◌+◌, ◌-◌, ◌*◌, ◌/◌, ◌%◌, ◌^◌, ◌<◌, ◌≤◌, w64, arith, length, get_or, take, drop, set, replicate, append_assoc, length-append, length-drop, length-take-le, get_or-take, get_or-drop}
+use Rattle.std.proofs.Common.{◌≡◌, refl, sym, ap, ◌∙◌, List, [], ◌∷◌, ◌++◌, ⊎_elim, ℕ, zero, suc, ◌+◌, ◌-◌, ◌*◌, ◌/◌, ◌%◌, ◌^◌, ◌<◌, ◌≤◌, w64, add-one, arith, length, get_or, take, drop, set, replicate, length-append, length-drop, length-take-le, get_or-take, get_or-drop}
 use Rattle.std.proofs.Math.ListN.{get_or-append}
 use Rattle.std.proofs.Math.Nat.{eq-zero-or-pos}
-use Rattle.std.proofs.Math.Seq.{drop-drop}
+use lib.Seq.{paste, paste-suc}
 use Rattle.std.proofs.lemmas.List.{get_or-replicate}
-use borrow.Rule.Slice.PartMut.{put_mid}
 use Rattle.octets.specs.Lists.{table, table-ext, tabled, over, length_over}
 use Rattle.octets.specs.Filled.{Filled, filled_more, filled-all}
 use Rattle.octets.specs.Writes.{over-front}
@@ -38,13 +37,14 @@ length-bytes n =
     last : n * 8 % 2 ^ 64 % 256 ≡ bits (n * 8 % 2 ^ 64) 7
     last = omega arith
 
--- and copies its eight bytes over the last of a block
-pub length-put : (b : List ℕ) (n : ℕ) {s : List ℕ} → s ≡ to_be_bytes w64 (n * 8 % 2 ^ 64) → put_mid 56 8 b s ≡ over b 56 (be64 (8 * n))
+-- and writes its eight bytes over the last of a block, one a turn, each at its place
+pub length-turn : (b s : List ℕ) (i at : ℕ) {t : List ℕ} → at ≡ 56 + i → length b ≡ 64 → length s ≡ 8 → i < 8 →
+    t ≡ paste b 56 s i → set t at (get_or s i 0) ≡ paste b 56 s (i + 1)
+length-turn b s i at e f g h q = rw (e, q, add-one) (paste-suc b 56 s i 0 (omega arith) (omega arith))
+
+pub length-put : (b : List ℕ) (n : ℕ) {s t : List ℕ} → s ≡ to_be_bytes w64 (n * 8 % 2 ^ 64) → t ≡ paste b 56 s 8 → t ≡ over b 56 (be64 (8 * n))
 unfolding over
-length-put b n e =
-    ap (put_mid 56 8 b) (e ∙ length-bytes n)
-    ∙ ap (λ x. take 56 b ++ (be64 (8 * n) ++ x)) (drop-drop 8 56 b)
-    ∙ sym (append_assoc (take 56 b) (be64 (8 * n)) (drop 64 b))
+length-put b n e q = q ∙ ap (λ x. paste b 56 x 8) (e ∙ length-bytes n)
 
 -- a byte of a list that s is written over: before s, and in it
 over-before : (d s : List ℕ) (at j : ℕ) → at ≤ length d → j < at → get_or (over d at s) j 0 ≡ get_or d j 0

@@ -19,9 +19,11 @@ pub fn block_count(m: &[u8]) -> usize
 fn put_length(b: [u8; 64], n: usize) -> [u8; 64]
     ensures { result ≡ over b 56 (be64 (8 * n)) }
 {
-    let bits = n.wrapping_mul(8);
+    let length = n.wrapping_mul(8).to_be_bytes();
     let mut t = b;
-    t[56..].copy_from_slice(&bits.to_be_bytes());
+    for i in 0..8 {
+        t[56 + i] = length[i];
+    }
     t
 }
 

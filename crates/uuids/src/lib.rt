@@ -113,11 +113,13 @@ fn text(bytes: &[u8], room: usize) -> Result<[u8; 36], Refusal>
     Ok(write(bytes))
 }
 
-// A record to its text.
+// A record to its text. Two cases, where `conversion::told` would do: a must-fail edit changes the length of one.
 pub fn to_text(bytes: &[u8], out: &mut [u8]) -> Converted
     ensures value { result ≡ converted (record_number bytes.now (length out.old)) (text_of bytes.now) }
     ensures out_after { out.new ≡ output_after (record_number bytes.now (length out.old)) (text_of bytes.now) out.old }
 {
-    let letters = text(bytes, out.len());
-    conversion::told(letters, out)
+    match text(bytes, out.len()) {
+        Ok(letters) => conversion::done(&letters, out),
+        Err(refusal) => conversion::declined(refusal.number()),
+    }
 }

@@ -69,9 +69,9 @@ fn characters(bits: &[u8]) -> [u8; 26]
     ensures { result ≡ map character (drop 6 bits.now) }
 {
     let mut text = [0u8; 26];
-    // By place: with array::from_fn the proof did not close, since it does not learn that each of 26 calls reads this slice.
-    for (i, b) in bits[6..].iter().enumerate() {
-        text[i] = b'0' + *b;
+    // By place: with array::from_fn the proof did not close: it does not learn that each call reads this slice.
+    for i in 0..26 {
+        text[i] = b'0' + bits[6 + i];
     }
     text
 }

@@ -1,12 +1,12 @@
 -- Loops that mix a list from the front: what is left of it, mixed into the sum now, is the whole of it, mixed into the first. Assumes nothing.
-use mathlib.Core.Path.{◌≡◌, refl, sym, ap, ◌∙◌}
+use mathlib.Core.Path.{◌≡◌, refl, sym, ap, ap₂, ◌∙◌}
 use mathlib.Core.List.{List, [], ◌++◌, flatten, append_assoc}
 use Prim.Native.Nat.{ℕ, zero, suc, ◌+◌, ◌-◌, ◌*◌, ◌^◌, ◌<◌, ◌≤◌}
 use native.Mathlib.Nat.{mul-le-mul_left}
 use native.Mathlib.Numerals.{add-one}
 use native.Mathlib.Omega.{arith}
 use lib.ListN.{length, take, drop, get_or, drop_of_length-le, length-drop, take-append-drop}
-use lib.Seq.{drop-cons, drop-drop}
+use lib.Seq.{take_all, drop-cons, drop-drop}
 use Rattle.std.specs.Simd.{first_chunks}
 use Rattle.work.specs.Steps.{mixed, mixed_all}
 use Rattle.work.specs.Laws.{mixed_all-append}
@@ -37,8 +37,20 @@ blocks-whole (suc k) l =
     ∙ ap (λ (x : List ℕ). take 16 l ++ x) (blocks-whole k (drop 16 l))
     ∙ take-append-drop 16 l
 
-pub blocks-done : (k s : ℕ) (l : List ℕ) → mixed_all (mixed_all s (flatten (first_chunks 16 k l))) (drop (k * 16) l) ≡ mixed_all s l
-blocks-done k s l = sym (mixed_all-append s (flatten (first_chunks 16 k l)) (drop (k * 16) l)) ∙ ap (mixed_all s) (blocks-whole k l)
+-- a part that is the whole list
+pub whole_from : (l : List ℕ) (i n : ℕ) → i ≡ 0 → length l ≤ n → take n (drop i l) ≡ l
+whole_from l i n e h = ap (λ (j : ℕ). take n (drop j l)) e ∙ take_all n l h
+
+pub ruleset whole = (arith, take_all, whole_from)
+
+-- the blocks of a list l that is the whole, mixed into s, and then the rest
+pub blocks-done : (k s : ℕ) (l all : List ℕ) {sum : ℕ} {front : List (List ℕ)} {rest : List ℕ} →
+    front ≡ first_chunks 16 k l → rest ≡ drop (k * 16) l → sum ≡ mixed_all s (flatten front) → l ≡ all →
+    mixed_all sum rest ≡ mixed_all s all
+blocks-done k s l all f r e q =
+    ap₂ mixed_all (e ∙ ap (λ (x : List (List ℕ)). mixed_all s (flatten x)) f) r
+    ∙ sym (mixed_all-append s (flatten (first_chunks 16 k l)) (drop (k * 16) l))
+    ∙ ap (mixed_all s) (blocks-whole k l ∙ q)
 
 -- one byte by its weight
 pub weights-turn : (l : List ℕ) (i w s s' all : ℕ) → i < length l → w ≡ weight (length l - suc i) → s' ≡ s + w * get_or l i 0 → s + weighed (drop i l) ≡ all → s' + weighed (drop (i + 1) l) ≡ all

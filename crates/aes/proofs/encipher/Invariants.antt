@@ -1,8 +1,9 @@
--- `aes::encipher` meets its contract: after so many round keys the state is that of so many rounds. Assumes nothing.
+-- `aes::encipher` meets its contract: before turn i the state is that of i - 1 rounds. Assumes nothing.
+use Prim.Native.Nat.{◌-◌}
 use mathlib.Core.Path.{◌≡◌}
 use Rattle.rounds.specs.Columns.{state_of}
 use Rattle.rounds.specs.Cipher.{rounds}
 use Rattle.aes.proofs.encipher.Given as goal
 
-abbrev pub invariant-loop-key : goal.invariant-loop-key
-invariant-loop-key l = state_of l.t ≡ rounds l.w l.key-index (state_of l.initial.t)
+abbrev pub invariant-loop-i : goal.invariant-loop-i
+invariant-loop-i l = state_of l.t ≡ rounds l.w (l.i - 1) (state_of l.initial.t)

@@ -1,4 +1,5 @@
 -- `chain` meets its contract. What is done of the text and what is left to do make the same whole (Turns). Assumes nothing.
+-- Of the loop's end and of the count told only the value is asked, in whatever form they are written.
 use Prim.Native.Nat.{◌+◌, ◌*◌, ◌/◌, ◌≤◌}
 use mathlib.Core.Path.{◌≡◌, refl, ap, ◌∙◌}
 use native.Mathlib.Nat.{sub-zero}
@@ -26,6 +27,7 @@ loop-n-preserved c =
     let v = c.args.way.now in
     let w = c.args.w.now in
     let key = c.args.key.now in
+    let blocks = length c.args.text.now / 16 in
     let step = c.turn-step in
     let b = c.block_at-block.ensures in
     let summed = prepared-step l.after (step_of v key w l.chained c.block_at-block.result) c.prepare-shown.ensures in
@@ -39,7 +41,7 @@ loop-n-preserved c =
     let fits : at + 16 ≤ length l.text = omega arith in (
       omega arith,
       text-turn l.text _ now at _ fits long further put (out v w) (next v w) _ _ _ y z q.1,
-      steps-turn l.text _ now at _ fits long further put key w _ _ _ _ _ _ c.loop-n-test.true refl v _ _ _ b step.ensures.1 (step.ensures.2 ∙ summed) q.2,
+      steps-turn l.text _ now at _ fits long further put key w blocks l.n _ _ _ _ (omega arith) refl v _ _ _ b step.ensures.1 (step.ensures.2 ∙ summed) q.2,
     )
 
 pub shape_of-text : goal.shape_of-text
@@ -50,7 +52,9 @@ returns c =
     let l = c.loop-n in
     let a = c.args in
     let v = a.way.now in
-    let w = a.w.now in (
-      steps-done a.key.now w _ _ (length a.text.now / 16) l.n _ _ (omega arith) v _ _ l.invariant.2,
+    let w = a.w.now in
+    let blocks = length a.text.now / 16 in
+    let all_made : l.n ≡ blocks = first_of (omega arith, grind arith) in (
+      steps-done a.key.now w _ _ _ blocks l.n _ _ all_made (first_of (omega arith, grind arith)) v _ _ l.invariant.2,
       text-done (out v w) (next v w) l.chained l.text _ (16 * l.n) (omega arith) l.invariant.1,
     )

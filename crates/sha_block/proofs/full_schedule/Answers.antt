@@ -1,6 +1,8 @@
 -- `sha_block::full_schedule` meets its contract: each turn of the inner loop puts one word more after those of the
 -- schedule. Assumes nothing.
-use Rattle.std.proofs.Common.{◌≡◌, sym, ap, ap₂, ◌∙◌, List, [], ◌∷◌, ◌++◌, ℕ, suc, ◌+◌, ◌*◌, ◌<◌, get_or, take, set, length-set, get_or-take, arith, rules}
+use mir.Val.{bool_byte}
+use Rattle.std.proofs.Common.{◌≡◌, ◌≢◌, ◌⊎◌, sym, ap, ap₂, ◌∙◌, List, [], ◌∷◌, ◌++◌, ℕ, suc, ◌+◌, ◌<◌, get_or, take, set, length-set, get_or-take, arith, rules}
+use Rattle.std.proofs.Math.Dec.{eqb}
 use Rattle.std.proofs.Math.Seq.{take-suc-set, take_all}
 use Rattle.sha_block.specs.Hash.{next_word, schedule}
 use Rattle.sha_block.proofs.full_schedule.Invariants.{Grown}
@@ -19,19 +21,24 @@ module _ {m w : List ℕ} (n : ℕ) (g : Grown m w n) where
       let t = at n (omega arith) in
       cc
 
-  -- one word more
-  grown : {v : ℕ} → n < 48 → v ≡ next_word w n → Grown m (set w (n + 16) v) (suc n)
+  -- one word more, at k, made from place i
+  grown : (s k i : ℕ) {v : ℕ} → n < 48 → s ≡ suc n → k ≡ n + 16 → i ≡ n → v ≡ next_word w i → Grown m (set w k v) s
   unfolding schedule
-  grown {v} h f = record {
-    long = length-set w (n + 16) v ∙ g.long;
+  grown s k i {v} h p q e f = record {
+    long = length-set w k v ∙ g.long;
     made =
-        ap (λ (i : ℕ). take i (set w (n + 16) v)) one
+        ap₂ (λ (i j : ℕ). take i (set w j v)) one q
         ∙ take-suc-set w (n + 16) v (omega arith)
-        ∙ ap₂ (λ (l : List ℕ) (x : ℕ). l ++ (x ∷ [])) g.made (f ∙ next);
+        ∙ ap₂ (λ (l : List ℕ) (x : ℕ). l ++ (x ∷ [])) g.made (f ∙ ap (next_word w) e ∙ next)
+        ∙ ap (schedule m) (sym p);
   }
     where
-      one : suc n + 16 ≡ suc (n + 16)
+      one : s + 16 ≡ suc (n + 16)
       one = omega arith
+
+-- what a test adds to a place
+cast : (a b : ℕ) → ((bool_byte (eqb a b) ≡ 1) × (a ≡ b)) ⊎ ((bool_byte (eqb a b) ≡ 0) × (a ≢ b))
+cast a b = grind arith
 
 pub loop-i-init : goal.loop-i-init
 unfolding schedule
@@ -39,9 +46,7 @@ loop-i-init c = record { long = search (rules, c.load-w.type_inv); made = c.load
 
 pub loop-j-preserved : goal.loop-j-preserved
 loop-j-preserved c =
-    let n : ℕ = 8 * c.loop-i.i + c.loop-j.j in
-    let e : 8 * c.loop-i.i + (c.loop-j.j + 1) ≡ suc n = omega arith in
-    rw e (grown n c.loop-j.invariant (omega arith) c.next_word.ensures)
+    grown _ c.loop-j.invariant _ _ _ (omega arith) (omega arith) (omega arith) (omega (arith, cast)) c.next_word.ensures
 
 pub returns : goal.returns
 returns c =
