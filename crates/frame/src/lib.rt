@@ -62,7 +62,7 @@ fn has_no_zero(s: &[u8]) -> bool
     s.iter().fold(true, |ok, b| octets::both(ok, *b != 0))
 }
 
-// The part is taken first: `skip` has a test of its own at each turn of the loop, some 2,600 instructions more a command.
+// The part is taken first: `skip` has one more test at each turn of the loop, some 2,600 instructions a command.
 pub fn no_zero(s: &[u8], from: usize) -> bool
     ensures { result ≡ no_zero (drop from s.now) }
 {
